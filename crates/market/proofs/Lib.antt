@@ -1,0 +1,3 @@
+pub mod Boarding
+pub mod Banding
+pub mod Booking

@@ -1,0 +1,7 @@
+use native.Mathlib.Omega.{arith}
+use Rattle.std.proofs.shelf.Ways.{tells}
+use Rattle.market.proofs.Booking.{top-with}
+use Rattle.market.proofs.book.depth.top_with.Needs as need
+
+pub returns : need.returns
+returns c = top-with (c .args .component) _ _ (grind (arith, tells)) _ _ _ (c .best-among-best .ensures) (c .join .ensures)

@@ -1,0 +1,7 @@
+use native.Mathlib.Omega.{arith}
+use Rattle.std.proofs.shelf.Ways.{tells}
+use Rattle.market.proofs.Booking.{top-without}
+use Rattle.market.proofs.book.depth.top_without.Needs as need
+
+pub returns : need.returns
+returns c = top-without (c .args .component) _ _ (grind (arith, tells)) _ _ _ (c .best-among-best .ensures) (c .best-among .ensures)

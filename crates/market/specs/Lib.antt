@@ -1,0 +1,5 @@
+pub mod Faults
+pub mod Meaning
+pub mod Boards
+pub mod Bands
+pub mod Books

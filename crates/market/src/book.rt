@@ -1,0 +1,28 @@
+// A depth book: up to 64 orders, added one by one and withdrawn by number alone. Its room is
+// taken when it is made, so that no notice wants memory.
+ghost use Prim.Native.Nat.{_≤_};
+ghost use Rattle.std.specs.Of.Vec.{vec-cap};
+use terms::side::Side;
+use terms::top::Top;
+
+mod depth;
+
+#[derive(Clone, Copy)]
+pub enum BookNotice {
+    Add { number: u32, component: u32, side: Side, price: u32, customer: bool },
+    Withdraw { number: u32 },
+}
+
+#[derive(Clone, Copy)]
+pub struct BookOrder {
+    number: u32,
+    component: u32,
+    side: Side,
+    top: Top,
+}
+
+#[derive(Drop)]
+pub struct DepthBook {
+    orders: Vec<BookOrder>,
+    ghost room: { 64 ≤ vec-cap orders },
+}

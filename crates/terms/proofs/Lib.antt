@@ -1,0 +1,4 @@
+pub mod Pricing
+pub mod Listing
+pub mod Summing
+pub mod Suffixes

@@ -1,0 +1,9 @@
+// The vocabulary of a session: quantities with their ranges, sides, legs, strategies, tops and refusals.
+pub mod answer;
+pub mod leg;
+pub mod price;
+pub mod refusal;
+pub mod side;
+pub mod strategy;
+pub mod synthetic;
+pub mod top;
