@@ -1,3 +1,4 @@
 pub mod Boarding
 pub mod Banding
 pub mod Booking
+pub mod Quoting

@@ -1,8 +1,7 @@
 // A depth book: up to 64 orders, added one by one and withdrawn by number alone. Its room is
 // taken when it is made, so that no notice wants memory.
-ghost use Prim.Native.Nat.{_≤_};
-ghost use Rattle.std.specs.Of.Vec.{vec-cap};
 use terms::side::Side;
+use terms::table::Table;
 use terms::top::Top;
 
 mod depth;
@@ -23,6 +22,5 @@ pub struct BookOrder {
 
 #[derive(Drop)]
 pub struct DepthBook {
-    orders: Vec<BookOrder>,
-    ghost room: { 64 ≤ vec-cap orders },
+    orders: Table<BookOrder, 64>,
 }

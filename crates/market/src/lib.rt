@@ -4,3 +4,4 @@ pub mod board;
 pub mod book;
 pub mod fault;
 pub mod interface;
+pub mod quote;

@@ -6,3 +6,4 @@ pub mod Legs
 pub mod Strategies
 pub mod Refusals
 pub mod Synthetics
+pub mod Tables

@@ -4,9 +4,9 @@ ghost use mathlib.Core.List.{List, [], _∷_, _++_};
 ghost use mathlib.Core.Path.{_≡_};
 ghost use lib.ListN.{length};
 ghost use Rattle.std.specs.Holes.{removed};
-ghost use Rattle.std.specs.Of.Vec.{vec-items};
 ghost use Rattle.std.specs.Vec.{made};
 ghost use Rattle.std.specs.declared.option.Option.the-variants.{None};
+ghost use Rattle.terms.specs.Tables.{entries};
 ghost use Rattle.terms.specs.Tops.{topOf};
 ghost use Rattle.market.specs.Meaning.{led};
 ghost use Rattle.market.specs.declared.book.BookOrder.{BookOrder};
@@ -21,6 +21,7 @@ use std::alloc::AllocError;
 use std::alloc::Global;
 use terms::side::Side;
 use terms::side::SidePartialEq;
+use terms::table::Table;
 use terms::top::Top;
 
 // Whether price a is better than price b on this side.
@@ -173,9 +174,9 @@ fn withdraw_fault(orders: &[BookOrder], number: u32) -> Option<Fault>
 impl DepthBook {
     // A book that holds no orders.
     pub fn new(heap: Global) -> Result<DepthBook, AllocError>
-        ensures { λ r. ⌜ made r (λ b. vec-items (b .orders) ≡ []) ⌝ }
+        ensures { λ r. ⌜ made r (λ b. entries (b .orders) ≡ []) ⌝ }
     {
-        let orders = Vec::with_capacity(heap, 64)?;
+        let orders = Table::new(heap)?;
         Ok(DepthBook { orders })
     }
 }
@@ -186,7 +187,7 @@ pub impl Market for DepthBook as DepthBookMarket {
 
     ghost Model = { List BookOrder };
 
-    ghost model = { λ b. vec-items (b .orders) };
+    ghost model = { λ b. entries (b .orders) };
 
     ghost top = { bookTop };
 
@@ -195,26 +196,26 @@ pub impl Market for DepthBook as DepthBookMarket {
     ghost after = { bookAfter };
 
     fn tell(&mut self, component: u32, side: Side) -> Option<Top> {
-        top_among(component, side, &self.orders)
+        top_among(component, side, self.orders.entries())
     }
 
     fn foresee(&mut self, notice: &BookNotice, component: u32, side: Side) -> Option<Top> {
-        foreseen(component, side, &self.orders, notice)
+        foreseen(component, side, self.orders.entries(), notice)
     }
 
     fn take(&mut self, notice: &BookNotice) -> Result<(), Fault> {
-        if let Some(fault) = book_fault(&self.orders, notice) {
+        if let Some(fault) = book_fault(self.orders.entries(), notice) {
             return Err(fault);
         }
         match notice {
             BookNotice::Add { number, component, side, price, customer } => {
                 if let Some(order) = order_of(*number, *component, *side, *price, *customer) {
-                    self.orders.push_reserved(order);
+                    let _added = self.orders.add(order);
                 }
             }
             BookNotice::Withdraw { number } => {
-                let at = place_of(*number, &self.orders);
-                let _order = self.orders.remove(at);
+                let at = place_of(*number, self.orders.entries());
+                self.orders.remove(at);
             }
         }
         Ok(())

@@ -1,0 +1,4 @@
+pub mod Rowing
+pub mod Listings
+pub mod Starting
+pub mod Looking
