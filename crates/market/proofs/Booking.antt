@@ -1,15 +1,13 @@
 -- The loops over a book's orders.
 use Prim.Native.Nat.{ℕ, suc, _+_, _-_, _<_, _≤_}
-use mathlib.Core.Bool.{Bool, true, false, cond, not}
+use mathlib.Core.Bool.{true, cond}
 use mathlib.Core.List.{List, [], _∷_, _++_}
 use mathlib.Core.Path.{_≡_, refl, sym, ap, _∙_}
 use native.Mathlib.Numerals.{add-one}
 use native.Mathlib.Omega.{arith}
-use lib.Dec.{eqb}
 use lib.ListN.{length, getD, take, drop}
 use Rattle.std.proofs.shelf.Lists.{at-drop-all, take-rest}
 use Rattle.std.proofs.shelf.Tests.{cond-true}
-use Rattle.std.proofs.shelf.Ways.{tells}
 use Rattle.std.specs.Holes.{removed}
 use Rattle.std.specs.declared.option.Option.{Option}
 use Rattle.std.specs.declared.option.Option.the-variants.{Some, None}
@@ -18,7 +16,7 @@ use Rattle.terms.specs.Ranges.{component}
 use Rattle.terms.specs.declared.side.Side.{Side}
 use Rattle.terms.specs.declared.top.Top.{Top}
 use Rattle.market.specs.declared.book.BookOrder.{BookOrder}
-use Rattle.market.specs.Books.{bestAmong, bookTop, placeOf, withOrder}
+use Rattle.market.specs.Books.{bestAmong, bookTop, withOrder}
 
 module _ (c : ℕ) (s : Side) (start best : Option Top) (os : List BookOrder) (i : ℕ) (inv : bestAmong c s best (drop i os) ≡ bestAmong c s start os) where
   pub best-on : (o : BookOrder) (r : Option Top) → i < length os → o ≡ getD os i o → r ≡ withOrder c s best o → bestAmong c s r (drop (i + 1) os) ≡ bestAmong c s start os
@@ -30,19 +28,6 @@ module _ (c : ℕ) (s : Side) (start best : Option Top) (os : List BookOrder) (i
 pub best-append : (c : ℕ) (s : Side) (best : Option Top) (xs ys : List BookOrder) → bestAmong c s best (xs ++ ys) ≡ bestAmong c s (bestAmong c s best xs) ys
 best-append c s best [] ys = refl
 best-append c s best (x ∷ xs) ys = best-append c s (withOrder c s best x) xs ys
-
-module _ (n : ℕ) (os : List BookOrder) (i : ℕ) (inv : i + placeOf n (drop i os) ≡ placeOf n os) where
-  place-at : (o : BookOrder) → i < length os → o ≡ getD os i o → placeOf n (drop i os) ≡ cond (not (eqb (o .number) n)) (1 + placeOf n (drop (i + 1) os)) 0
-  place-at o h e = ap (placeOf n) (drop-read os i o h e)
-
-  pub place-here : (o : BookOrder) → i < length os → o ≡ getD os i o → o .number ≡ n → i ≡ placeOf n os
-  place-here o h e f = let p = place-at o h e in grind (arith, tells)
-
-  pub place-on : (o : BookOrder) → i < length os → o ≡ getD os i o → (o .number ≡ n → ⊥) → (i + 1) + placeOf n (drop (i + 1) os) ≡ placeOf n os
-  place-on o h e f = let p = place-at o h e in grind (arith, tells)
-
-  pub place-end : length os ≤ i → i ≤ length os → length os ≡ placeOf n os
-  place-end h k = let p : placeOf n (drop i os) ≡ 0 = at-drop-all (placeOf n) os i h in omega arith
 
 module _ (c : ℕ) (s : Side) (os : List BookOrder) (h : component c ≡ true) where
   at-book : (xs : List BookOrder) → bestAmong c s None xs ≡ bookTop xs c s

@@ -4,6 +4,8 @@ use terms::top::Top;
 
 mod kept;
 
+pub use self::kept::BoardMarket;
+
 #[derive(Clone, Copy)]
 pub enum BoardNotice {
     Set { component: u32, side: Side, price: u32, customer: bool },

@@ -6,6 +6,8 @@ use terms::top::Top;
 
 mod depth;
 
+pub use self::depth::DepthBookMarket;
+
 #[derive(Clone, Copy)]
 pub enum BookNotice {
     Add { number: u32, component: u32, side: Side, price: u32, customer: bool },

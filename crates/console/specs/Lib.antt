@@ -1,0 +1,4 @@
+pub mod Texts
+pub mod Headings
+pub mod Notices
+pub mod Turns

@@ -1,0 +1,10 @@
+pub mod Lookups
+pub mod Digits
+pub mod Runs
+pub mod Cutting
+pub mod Lexing
+pub mod Refusing
+pub mod Listing
+pub mod Speaking
+pub mod Feeding
+pub mod Writing

@@ -1,0 +1,5 @@
+pub mod answer;
+pub mod keyword;
+pub mod lex;
+pub mod line;
+pub mod word;
