@@ -45,15 +45,27 @@ impl Place {
     fn after(self, len: usize) -> Place
         ensures { λ r. ⌜ (self .at < 18446744073709551615 → self .at < r .at) ⌝ }
     {
-        Place { at: self.at.saturating_add(len).saturating_add(1), line: self.line.saturating_add(1) }
+        Place {
+            at: self.at.saturating_add(len).saturating_add(1),
+            line: self.line.saturating_add(1),
+        }
     }
 }
 
-// A statement, with the word that it begins with.
+// What a line is. One that cannot be read has been told on standard error.
 #[derive(Drop)]
-struct Said {
-    call: Keyword,
-    statement: Statement,
+enum Line {
+    Blank,
+    Unreadable,
+    // a statement, with the word that it begins with
+    Said(Keyword, Statement),
+}
+
+// Whether a text was read to its end, or up to a line that cannot be read.
+#[derive(Clone, Copy)]
+enum Ending {
+    Read,
+    Unreadable,
 }
 
 // The text: of the file that is named, or of standard input.
@@ -71,35 +83,37 @@ fn source(rt: &LibcRuntime) -> Result<Vec<u8>, AnyError> {
     Ok(fs::read(rt, path)?)
 }
 
-// What cannot be read, on standard error.
-fn unreadable(rt: &LibcRuntime, line: usize, bytes: &[u8]) -> Result<AnyError, AnyError> {
+// Tells on standard error what cannot be read.
+fn complain(rt: &LibcRuntime, line: usize, bytes: &[u8]) -> Result<(), AnyError> {
     let what = String::from_utf8_lossy(rt.alloc(), bytes)?;
     eprintln!(rt, "line {line}: cannot read {what:?}")?;
-    Ok("unreadable".into())
+    Ok(())
 }
 
-// The words of a line.
-fn line_words(rt: &LibcRuntime, line: usize, bytes: &[u8]) -> Result<Vec<Word>, AnyError> {
-    match words(rt.alloc(), bytes) {
-        Ok(words) => Ok(words),
-        Err(Unread::Memory) => Err("out of memory".into()),
-        Err(Unread::Unknown(span)) => Err(unreadable(rt, line, bytes.get(span.start..span.end).unwrap_or(bytes))?),
-    }
-}
-
-// The statement of a line; none if the line is blank.
-fn statement(rt: &LibcRuntime, line: usize, bytes: &[u8]) -> Result<Option<Said>, AnyError> {
-    let words = line_words(rt, line, bytes)?;
+// The statement that the words of a line make.
+fn said(rt: &LibcRuntime, line: usize, bytes: &[u8], words: &[Word]) -> Result<Line, AnyError> {
     let Some(first) = words.first() else {
-        return Ok(None);
+        return Ok(Line::Blank);
     };
-    let Word::Key(call) = *first else {
-        return Err(unreadable(rt, line, bytes)?);
-    };
-    let Some(statement) = statement_of(rt.alloc(), &words)? else {
-        return Err(unreadable(rt, line, bytes)?);
-    };
-    Ok(Some(Said { call, statement }))
+    if let Word::Key(call) = *first {
+        if let Some(statement) = statement_of(rt.alloc(), words)? {
+            return Ok(Line::Said(call, statement));
+        }
+    }
+    complain(rt, line, bytes)?;
+    Ok(Line::Unreadable)
+}
+
+// What a line of the text is.
+fn read_line(rt: &LibcRuntime, line: usize, bytes: &[u8]) -> Result<Line, AnyError> {
+    match words(rt.alloc(), bytes) {
+        Ok(words) => said(rt, line, bytes, &words),
+        Err(Unread::Memory) => Err("out of memory".into()),
+        Err(Unread::Unknown(span)) => {
+            complain(rt, line, bytes.get(span.start..span.end).unwrap_or(bytes))?;
+            Ok(Line::Unreadable)
+        }
+    }
 }
 
 // The bytes of the line at a place.
@@ -113,76 +127,119 @@ fn line_at(text: &[u8], place: Place) -> &[u8] {
     &rest[0..len]
 }
 
-fn print_answer(rt: &LibcRuntime, line: usize, call: Keyword, answer: &Answer) -> Result<(), AnyError> {
+fn print_answer(
+    rt: &LibcRuntime,
+    line: usize,
+    call: Keyword,
+    answer: &Answer,
+) -> Result<(), AnyError> {
     let text = answer_line(rt.alloc(), line, call, answer)?;
     println!(rt, "{text}")?;
     Ok(())
 }
 
 // Makes the calls of the text from a place on, and prints their answers.
-fn play<M: Market<Fault = Fault> + Drop, S: Drop>(rt: &LibcRuntime, mut session: Session<M, S>, text: &[u8], from: Place) -> Result<(), AnyError>
+fn play<M: Market<Fault = Fault> + Drop, S: Drop>(
+    rt: &LibcRuntime,
+    mut session: Session<M, S>,
+    text: &[u8],
+    from: Place,
+) -> Result<Ending, AnyError>
 where
     M::Notice: Stated + Drop,
 {
     let mut place = from;
     while place.at < text.len() {
         let bytes = line_at(text, place);
-        if let Some(said) = statement(rt, place.line, bytes)? {
-            let Some(answer) = respond(&mut session, &said.statement) else {
-                return Err(unreadable(rt, place.line, bytes)?);
-            };
-            print_answer(rt, place.line, said.call, &answer)?;
+        match read_line(rt, place.line, bytes)? {
+            Line::Blank => {}
+            Line::Unreadable => return Ok(Ending::Unreadable),
+            Line::Said(call, statement) => {
+                let Some(answer) = respond(&mut session, &statement) else {
+                    complain(rt, place.line, bytes)?;
+                    return Ok(Ending::Unreadable);
+                };
+                print_answer(rt, place.line, call, &answer)?;
+            }
         }
         place = place.after(bytes.len());
     }
-    Ok(())
+    Ok(Ending::Read)
 }
 
 // A sitting over this market, under the band if there is one.
-fn sit<M: Market<Fault = Fault> + Drop>(rt: &LibcRuntime, market: M, setup: Setup, text: &[u8], from: Place) -> Result<(), AnyError>
+fn sit<M: Market<Fault = Fault> + Drop>(
+    rt: &LibcRuntime,
+    market: M,
+    setup: Setup,
+    text: &[u8],
+    from: Place,
+) -> Result<Ending, AnyError>
 where
     M::Notice: Stated + Drop,
 {
     let rule = setup.share.unwrap_or(ShareKind::ProRata);
     match setup.band {
-        Some(width) => play(rt, Session::new(rt.alloc(), Band::new(market, width), rule)?, text, from),
+        Some(width) => play(
+            rt,
+            Session::new(rt.alloc(), Band::new(market, width), rule)?,
+            text,
+            from,
+        ),
         None => play(rt, Session::new(rt.alloc(), market, rule)?, text, from),
     }
 }
 
-// Where the calls begin, after the headings; none if a heading was refused.
-fn headings(rt: &LibcRuntime, setup: &mut Setup, text: &[u8]) -> Result<Option<Place>, AnyError> {
+// How far the headings went.
+#[derive(Clone, Copy)]
+enum Headed {
+    // the calls begin here
+    Calls(Place),
+    // nothing is to be read behind them
+    Ended(Ending),
+}
+
+// Takes the headings of the text.
+fn headings(rt: &LibcRuntime, setup: &mut Setup, text: &[u8]) -> Result<Headed, AnyError> {
     let mut place = Place { at: 0, line: 1 };
     while place.at < text.len() {
         let bytes = line_at(text, place);
-        if let Some(said) = statement(rt, place.line, bytes)? {
-            match setup.heading(&said.statement) {
+        match read_line(rt, place.line, bytes)? {
+            Line::Blank => {}
+            Line::Unreadable => return Ok(Headed::Ended(Ending::Unreadable)),
+            Line::Said(call, statement) => match setup.heading(&statement) {
                 Heading::Taken => {}
-                Heading::Again => return Err(unreadable(rt, place.line, bytes)?),
-                Heading::Refused(refusal) => {
-                    print_answer(rt, place.line, said.call, &Answer::Refused(refusal))?;
-                    return Ok(None);
+                Heading::Again => {
+                    complain(rt, place.line, bytes)?;
+                    return Ok(Headed::Ended(Ending::Unreadable));
                 }
-                Heading::Call => return Ok(Some(place)),
-            }
+                Heading::Refused(refusal) => {
+                    print_answer(rt, place.line, call, &Answer::Refused(refusal))?;
+                    return Ok(Headed::Ended(Ending::Read));
+                }
+                Heading::Call => return Ok(Headed::Calls(place)),
+            },
         }
         place = place.after(bytes.len());
     }
-    Ok(Some(place))
+    Ok(Headed::Calls(place))
 }
 
-fn run(rt: &LibcRuntime) -> Result<(), AnyError> {
+fn run(rt: &LibcRuntime) -> Result<Ending, AnyError> {
     let text = source(rt)?;
     let mut setup = Setup::new();
-    let Some(from) = headings(rt, &mut setup, &text)? else {
-        return Ok(());
-    };
-    match setup.market.unwrap_or(MarketKind::Board) {
-        MarketKind::Board => sit(rt, Board::new(), setup, &text, from),
-        MarketKind::Book => sit(rt, DepthBook::new(rt.alloc())?, setup, &text, from),
+    match headings(rt, &mut setup, &text)? {
+        Headed::Ended(ending) => Ok(ending),
+        Headed::Calls(from) => match setup.market.unwrap_or(MarketKind::Board) {
+            MarketKind::Board => sit(rt, Board::new(), setup, &text, from),
+            MarketKind::Book => sit(rt, DepthBook::new(rt.alloc())?, setup, &text, from),
+        },
     }
 }
 
 fn main(rt: LibcRuntime) -> Result<(), AnyError> {
-    run(&rt)
+    match rt.report(run(&rt))? {
+        Ending::Read => Ok(()),
+        Ending::Unreadable => Err("unreadable".into()),
+    }
 }

@@ -33,7 +33,11 @@ impl Setup {
     pub fn new() -> Setup
         ensures { λ r. ⌜ r ≡ unstated ⌝ }
     {
-        Setup { market: None, band: None, share: None }
+        Setup {
+            market: None,
+            band: None,
+            share: None,
+        }
     }
 
     // Takes a heading. Nothing changes unless it is taken.

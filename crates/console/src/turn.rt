@@ -52,7 +52,10 @@ fn told_reading(r: Result<Reading, Refusal<Fault>>) -> Answer
 }
 
 // Answers a statement; none if it is no call of a session over this market.
-pub fn respond<M: Market<Fault = Fault>, S>(session: &mut Session<M, S>, statement: &Statement) -> Option<Answer>
+pub fn respond<M: Market<Fault = Fault>, S>(
+    session: &mut Session<M, S>,
+    statement: &Statement,
+) -> Option<Answer>
 where
     M::Notice: Stated + Drop,
     ensures { λ r. ⌜ Responds (turnOf (M·Market .top) (M·Market .fault) (M·Market .after) (Notice·Stated .statedBy) (view (M·Market .model) (now (session .entry))) (spoken (now (statement .entry)))) (view (M·Market .model) (now (session .entry))) (mapped heard r) (view (M·Market .model) (now (session .exit))) ⌝ }

@@ -2,3 +2,4 @@ pub mod Boarding
 pub mod Banding
 pub mod Booking
 pub mod Quoting
+pub mod Besting

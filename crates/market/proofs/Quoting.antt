@@ -14,7 +14,6 @@ use Rattle.terms.specs.Legs.{reads}
 use Rattle.terms.specs.Synthetics.{nought, priced, summed, syntheticOf}
 
 module _ (at : ℕ → Side → Option Top) (q : Side) (ls : List Leg) (tops : List (Option Top)) (i : ℕ) (inv : take i tops ≡ take i (priced at q ls)) where
-
   one-more : (d : Leg) → i < length ls → take (i + 1) (priced at q ls) ≡ take i (priced at q ls) ++ (at (getD ls i d .component) (reads q (getD ls i d)) ∷ [])
   one-more d h = let f : Leg → Option Top = λ l. at (l .component) (reads q l) in
       take-map f (i + 1) ls ∙ (map-more f ls i d h ∙ ap (λ x. x ++ (f (getD ls i d) ∷ [])) (sym (take-map f i ls)))

@@ -2,6 +2,7 @@
 use Prim.Native.Nat.{ℕ}
 use mathlib.Core.Bool.{Bool, true, false, cond, not, _&&_, _||_}
 use mathlib.Core.List.{List, [], _∷_, _++_}
+use mathlib.Core.Path.{_≡_}
 use lib.Dec.{eqb, ltb}
 use lib.ListN.{length}
 use Rattle.std.specs.Holes.{removed}
@@ -65,8 +66,8 @@ abbrev pub addFault : List BookOrder → ℕ → ℕ → Bool → Option Fault
 addFault os n c priced =
     cond (range.component c)
     (cond (range.number n && priced)
-        (cond (ltb (length os) 64) (cond (holds n os) (why c OrderNumber) None) (why c BookFull))
-        (why c OutOfRange))
+    (cond (ltb (length os) 64) (cond (holds n os) (why c OrderNumber) None) (why c BookFull))
+    (why c OutOfRange))
     (why 0 OutOfRange)
 
 abbrev pub withdrawFault : List BookOrder → ℕ → Option Fault
@@ -83,3 +84,33 @@ orderOf n c s t = mapped (λ (x : Top). record { number = n; component = c; side
 abbrev pub bookAfter : List BookOrder → BookNotice → List BookOrder
 bookAfter os (Add n c s p u) = os ++ listOf (orderOf n c s (topOf p u))
 bookAfter os (Withdraw n) = removed os (placeOf n os)
+
+-- one of the orders passes the test
+abbrev pub someBy : (BookOrder → Bool) → List BookOrder → Bool
+someBy p [] = false
+someBy p (o ∷ os) = p o || someBy p os
+
+abbrev pub atPrice : ℕ → Side → ℕ → BookOrder → Bool
+atPrice c s p o = isAt c s o && eqb (o .top .price .cents) p
+
+abbrev pub beats : ℕ → Side → Top → BookOrder → Bool
+beats c s t o = isAt c s o && better s (o .top) t
+
+abbrev pub customerAt : ℕ → Side → ℕ → BookOrder → Bool
+customerAt c s p o = atPrice c s p o && o .top .customer
+
+-- some order for the component and side is at the top's price, none is better, and the top is a
+-- customer's exactly if some order there at that price is
+pub record Best (c : ℕ) (s : Side) (os : List BookOrder) (t : Top) : Type 0 where
+  pub there : someBy (atPrice c s (t .price .cents)) os ≡ true
+  pub unbeaten : someBy (beats c s t) os ≡ false
+  pub mark : t .customer ≡ someBy (customerAt c s (t .price .cents)) os
+
+-- no top where there is no order, else the best
+abbrev pub IsBest : ℕ → Side → List BookOrder → Option Top → Type 0
+IsBest c s os None = someBy (isAt c s) os ≡ false
+IsBest c s os (Some t) = Best c s os t
+
+-- what a book shows of a component in range
+abbrev pub ShowsBest : List BookOrder → ℕ → Side → Option Top → Type 0
+ShowsBest os c s t = range.component c ≡ true → IsBest c s os t

@@ -8,8 +8,16 @@ pub use self::kept::BoardMarket;
 
 #[derive(Clone, Copy)]
 pub enum BoardNotice {
-    Set { component: u32, side: Side, price: u32, customer: bool },
-    Clear { component: u32, side: Side },
+    Set {
+        component: u32,
+        side: Side,
+        price: u32,
+        customer: bool,
+    },
+    Clear {
+        component: u32,
+        side: Side,
+    },
 }
 
 #[derive(Clone, Copy)]

@@ -10,8 +10,16 @@ pub use self::depth::DepthBookMarket;
 
 #[derive(Clone, Copy)]
 pub enum BookNotice {
-    Add { number: u32, component: u32, side: Side, price: u32, customer: bool },
-    Withdraw { number: u32 },
+    Add {
+        number: u32,
+        component: u32,
+        side: Side,
+        price: u32,
+        customer: bool,
+    },
+    Withdraw {
+        number: u32,
+    },
 }
 
 #[derive(Clone, Copy)]

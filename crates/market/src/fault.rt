@@ -43,6 +43,9 @@ pub impl Outside for Fault as FaultOutside {
     ghost outsideOf = { outsideBand };
 
     fn outside(component: u32) -> Fault {
-        Fault { component, cause: Cause::OutsideBand }
+        Fault {
+            component,
+            cause: Cause::OutsideBand,
+        }
     }
 }

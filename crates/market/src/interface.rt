@@ -12,6 +12,7 @@ use terms::top::Top;
 
 pub trait Market {
     type Notice;
+
     type Fault;
 
     ghost Model: { Type 0 };

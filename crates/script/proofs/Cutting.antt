@@ -1,8 +1,8 @@
 -- Where the spellings of a text stand.
-use Prim.Native.Nat.{ℕ, suc, _+_, _-_, _<_, _≤_}
-use mathlib.Core.Bool.{Bool, true, false, cond, not, _&&_, _||_}
+use Prim.Native.Nat.{ℕ, _+_, _-_, _<_, _≤_}
+use mathlib.Core.Bool.{Bool, true, false, cond, _&&_}
 use mathlib.Core.List.{List, [], _∷_}
-use mathlib.Core.Path.{_≡_, refl, sym, ap, subst, _∙_}
+use mathlib.Core.Path.{_≡_, refl, sym, ap, _∙_}
 use native.Mathlib.Nat.{add-zero}
 use native.Mathlib.Numerals.{one-add}
 use native.Mathlib.Omega.{arith}
@@ -62,7 +62,7 @@ spelling-by false true i b bs e f g =
     ∙ ap (λ ys. spanned i (i + (1 + leading inWord bs)) ∷ spans (i + (1 + leading inWord bs)) ys) (sym (ap (λ m. drop m (b ∷ bs)) (one-add (leading inWord bs))))
 spelling-by false false i b bs e f g = let z : _≡_ {A = Bool} true false = grind (arith, tells) in absurd (grind arith)
 
-spelling-at : (i b : ℕ) (bs : List ℕ) → gap b ≡ false → spans i (b ∷ bs) ≡ spanned i (i + spellingLen (b ∷ bs)) ∷ spans (i + spellingLen (b ∷ bs)) (drop (spellingLen (b ∷ bs)) (b ∷ bs))
+pub spelling-at : (i b : ℕ) (bs : List ℕ) → gap b ≡ false → spans i (b ∷ bs) ≡ spanned i (i + spellingLen (b ∷ bs)) ∷ spans (i + spellingLen (b ∷ bs)) (drop (spellingLen (b ∷ bs)) (b ∷ bs))
 spelling-at i b bs g = spelling-by (eqb b 44) (inWord b) i b bs refl refl g
 
 some-by : (t w : Bool) (b n : ℕ) → eqb b 44 ≡ t → inWord b ≡ w → gap b ≡ false → 0 < cond t 1 (cond w (1 + n) 0)

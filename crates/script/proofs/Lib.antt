@@ -8,3 +8,4 @@ pub mod Listing
 pub mod Speaking
 pub mod Feeding
 pub mod Writing
+pub mod Retelling

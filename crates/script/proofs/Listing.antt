@@ -6,7 +6,7 @@ use mathlib.Core.Path.{_≡_, refl, sym, ap, _∙_}
 use native.Mathlib.Numerals.{one-add}
 use native.Mathlib.Omega.{arith}
 use lib.Dec.{eqb}
-use lib.ListN.{length, getD, take, drop}
+use lib.ListN.{length, take, drop}
 use Rattle.std.proofs.shelf.Lists.{drop-all, drop-drop, drop-more, take-rest}
 use Rattle.std.proofs.shelf.Ways.{tells}
 use Rattle.std.specs.declared.option.Option.{Option}
@@ -17,8 +17,8 @@ use Rattle.terms.specs.declared.side.Side.{Side}
 use Rattle.terms.specs.declared.side.Side.the-variants.{Buy, Sell}
 use Rattle.script.specs.declared.keyword.Keyword.the-variants.{Ratio}
 use Rattle.script.specs.declared.word.Word.{Word}
-use Rattle.script.specs.declared.word.Word.the-variants.{Key, Comma, Number, Negative}
-use Rattle.script.specs.Legs.{each, legOf, legsOf, legsWords, legWith, legWords, moreWords, noComma, onFirst, pieces, sideWord, tradeSide, withLeg}
+use Rattle.script.specs.declared.word.Word.the-variants.{Key, Comma, Number}
+use Rattle.script.specs.Legs.{each, legOf, legsOf, legsWords, legWith, legWords, moreWords, noComma, onFirst, pieces, sideWord, withLeg}
 
 -- the pieces after a first one: none at the end, else those after the comma
 abbrev after : List Word → List (List Word)

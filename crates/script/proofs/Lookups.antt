@@ -1,7 +1,7 @@
 -- A spelling is looked up among the keywords, and each keyword is found under its own.
 use Prim.Native.Nat.{ℕ, _+_, _<_, _≤_}
 use mathlib.Core.Bool.{Bool, true, false, cond}
-use mathlib.Core.List.{List, [], _∷_}
+use mathlib.Core.List.{List}
 use mathlib.Core.Path.{_≡_, refl, sym, ap, _∙_}
 use lib.ListN.{length, getD, drop}
 use Rattle.std.proofs.shelf.Equals.{sameBytes-decides}
@@ -13,10 +13,10 @@ use Rattle.std.specs.declared.option.Option.the-variants.{Some, None}
 use Rattle.std.specs.shelf.Text.{sameBytes}
 use Rattle.script.specs.declared.keyword.Keyword.{Keyword}
 use Rattle.script.specs.declared.keyword.Keyword.the-variants.{Market, Board, Book, Band, Share, ProRata, FirstCome, List as Listing, Buy, Sell, Ratio, Open, Quote, Bid, Offer, Customer, Clear, Add, Withdraw, Order, Strategy, At, Cancel, Pair, Against, Stop, Single, Last, Match, To, Respond, Auction, Clock, Halt, Component, Close, Settle, Read, Statement}
-use Rattle.script.specs.Keywords.{keywords, keywordIn, keywordOf, spelling}
+use Rattle.script.specs.Keywords.{keywordIn, keywords, keywordOf, spelling}
 
 pub found : (k : Keyword) → keywordOf (spelling k) ≡ Some k
-unfolding keywords keywordOf
+unfolding keywordOf
 found Market = refl
 found Board = refl
 found Book = refl
@@ -69,3 +69,7 @@ module _ (ks : List Keyword) (bs : List ℕ) (i : ℕ) (inv : keywordIn (drop i 
 
   pub nowhere : length ks ≤ i → None ≡ keywordIn ks bs
   nowhere h = sym (at-drop-all (λ xs. keywordIn xs bs) ks i h) ∙ inv
+
+pub looked-up : (r : Option Keyword) (ks : List Keyword) (bs : List ℕ) → ks ≡ keywords → r ≡ keywordIn ks bs → r ≡ keywordOf bs
+unfolding keywordOf
+looked-up r ks bs e f = f ∙ ap (λ xs. keywordIn xs bs) e

@@ -1,10 +1,9 @@
 -- What is said of a price and of a refusal, case by case.
 use Prim.Native.Nat.{ℕ}
-use mathlib.Core.Bool.{Bool, true, false, cond}
-use mathlib.Core.List.{List, [], _∷_, _++_}
+use mathlib.Core.Bool.{true, cond}
+use mathlib.Core.List.{List, _++_}
 use mathlib.Core.Path.{_≡_, refl, sym, ap, _∙_}
 use lib.Chars.{codes}
-use lib.IntN.{ℤ}
 use Rattle.market.specs.declared.fault.Fault.{Fault}
 use Rattle.market.specs.Faults.{causeNumber}
 use Rattle.std.specs.Of.String.{string-bytes}
@@ -12,7 +11,7 @@ use Rattle.std.specs.Vec.{made}
 use Rattle.std.specs.Written.{decimal, signed}
 use Rattle.std.specs.declared.alloc.Global.{Global}
 use Rattle.std.specs.declared.option.Option.{Option}
-use Rattle.std.specs.declared.option.Option.the-variants.{Some, None}
+use Rattle.std.specs.declared.option.Option.the-variants.{Some}
 use Rattle.std.specs.declared.result.Result.{Result}
 use Rattle.std.specs.declared.result.Result.the-variants.{Ok, Err}
 use Rattle.std.specs.declared.string.String.{String}

@@ -1,8 +1,7 @@
 -- Every statement is read back from its words.
-use Prim.Native.Nat.{ℕ}
-use mathlib.Core.Bool.{Bool, true, false}
-use mathlib.Core.List.{List, [], _∷_}
-use mathlib.Core.Path.{_≡_, refl, sym, ap, _∙_}
+use mathlib.Core.Bool.{true, false}
+use mathlib.Core.List.{List}
+use mathlib.Core.Path.{_≡_, refl, ap, _∙_}
 use Rattle.market.specs.declared.board.BoardNotice.{BoardNotice}
 use Rattle.market.specs.declared.board.BoardNotice.the-variants.{Set, Clear}
 use Rattle.market.specs.declared.book.BookNotice.{BookNotice}
@@ -10,10 +9,9 @@ use Rattle.market.specs.declared.book.BookNotice.the-variants.{Add, Withdraw}
 use Rattle.std.specs.Options.{mapped}
 use Rattle.std.specs.Vec.{made}
 use Rattle.std.specs.declared.option.Option.{Option}
-use Rattle.std.specs.declared.option.Option.the-variants.{Some, None}
+use Rattle.std.specs.declared.option.Option.the-variants.{Some}
 use Rattle.std.specs.declared.result.Result.{Result}
 use Rattle.std.specs.declared.result.Result.the-variants.{Ok, Err}
-use Rattle.terms.specs.declared.side.Side.{Side}
 use Rattle.terms.specs.declared.side.Side.the-variants.{Buy, Sell}
 use Rattle.script.specs.declared.line.MarketKind.the-variants as kind
 use Rattle.script.specs.declared.line.ShareKind.the-variants as rule

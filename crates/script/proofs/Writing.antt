@@ -1,12 +1,12 @@
 -- Every word is read back from what is written of it.
-use Prim.Native.Nat.{ℕ, suc, _+_, _-_, _*_, _^_, _<_, _≤_}
-use mathlib.Core.Bool.{Bool, true, false, cond, _&&_}
+use Prim.Native.Nat.{ℕ, suc, _^_, _<_, _≤_}
+use mathlib.Core.Bool.{true, false, _&&_}
 use mathlib.Core.List.{List, [], _∷_}
 use mathlib.Core.Logic.{inl, inr}
 use mathlib.Core.Path.{_≡_, refl, sym, ap, _∙_}
 use native.Mathlib.Omega.{arith}
 use lib.Dec.{eqb, leb, ltb}
-use lib.IntN.{ℤ, pos, negsuc, negℤ}
+use lib.IntN.{ℤ, pos, negsuc}
 use lib.ListN.{length, getD}
 use Rattle.std.proofs.shelf.Decimals.{decimal-some, digits-decimal, value-decimal}
 use Rattle.std.proofs.shelf.Equals.{sameBytes-decides}
@@ -26,7 +26,7 @@ use Rattle.script.specs.Keywords.{keywordIn, keywordOf, keywords, spelling}
 use Rattle.script.specs.Words.{Fit, isComma, minus, numberBelow, numeralOf, orElse, plain, readOn, wordOf, writesBelow, written}
 use Rattle.script.proofs.Lookups.{found}
 
-own : Numerals (λ ds. allDigits ds ≡ true) (readOn 0)
+pub own : Numerals (λ ds. allDigits ds ≡ true) (readOn 0)
 own = numerals-by-fold _ tells-allDigits readOn (record { empty = λ n. refl; more = λ n c cs h. refl })
 
 read-below : (bound n : ℕ) → n < bound → bound ≤ 4294967296 → numberBelow bound (decimal n) ≡ Some n
@@ -37,8 +37,8 @@ read-below bound n h k =
     let some : ltb 0 (length (decimal n)) ≡ true = lt-ltb 0 (length (decimal n)) (decimal-some n small) in
     let fits : ltb (readOn 0 (decimal n)) bound ≡ true = ap (λ m. ltb m bound) same ∙ lt-ltb n bound h in
     cond-true (writesBelow bound (decimal n)) (Some (readOn 0 (decimal n))) None
-      (and-from (ltb 0 (length (decimal n))) (allDigits (decimal n) && ltb (readOn 0 (decimal n)) bound) some
-        (and-from (allDigits (decimal n)) (ltb (readOn 0 (decimal n)) bound) digits fits))
+    (and-from (ltb 0 (length (decimal n))) (allDigits (decimal n) && ltb (readOn 0 (decimal n)) bound) some
+    (and-from (allDigits (decimal n)) (ltb (readOn 0 (decimal n)) bound) digits fits))
     ∙ ap Some same
 
 first-digit : (ds : List ℕ) → allDigits ds ≡ true → 0 < length ds → (48 ≤ getD ds 0 0) × (getD ds 0 0 ≤ 57)
@@ -94,10 +94,11 @@ letter key.Statement = refl
 not-spelled : (k : Keyword) (bs : List ℕ) → getD bs 0 0 < 97 → sameBytes (spelling k) bs ≡ false
 not-spelled k bs h =
     elim (cases-bool (sameBytes (spelling k) bs)) [
-      inl e ↦
+      | inl e ↦
           let same : getD (spelling k) 0 0 ≡ getD bs 0 0 = ap (λ xs. getD xs 0 0) (sameBytes-decides (spelling k) bs .0 e) in
           absurd (omega (arith, leb-true 97 (getD (spelling k) 0 0) (letter k)))
-    | inr e ↦ e ]
+      | inr e ↦ e
+    ]
 
 not-in : (ks : List Keyword) (bs : List ℕ) → getD bs 0 0 < 97 → keywordIn ks bs ≡ None
 not-in [] bs h = refl
@@ -174,7 +175,7 @@ signed-back : (z : ℤ) → Fit (Negative z) → wordOf (written (Negative z)) �
 signed-back (pos n) h = minus-back n (omega arith) ∙ ap (λ m. Some (minus m)) h ∙ sym (ap (λ m. Some (Negative (pos m))) h)
 signed-back (negsuc n) h = minus-back (suc n) (omega arith)
 
-word-back : (w : Word) → Fit w → wordOf (written w) ≡ Some w
+pub word-back : (w : Word) → Fit w → wordOf (written w) ≡ Some w
 word-back (Key k) h = key-back k
 word-back Comma h = refl
 word-back (Number n) h = number-back n h

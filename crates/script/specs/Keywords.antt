@@ -51,7 +51,7 @@ spelling Settle = codes "settle"
 spelling Read = codes "read"
 spelling Statement = codes "statement"
 
-unfoldable pub keywords : List Keyword
+abbrev pub keywords : List Keyword
 keywords =
     Market ∷ Board ∷ Book ∷ Band ∷ Share ∷ ProRata ∷ FirstCome ∷ Listing ∷ Buy ∷ Sell ∷ Ratio ∷
     Open ∷ Quote ∷ Bid ∷ Offer ∷ Customer ∷ Clear ∷ Add ∷ Withdraw ∷ Order ∷ Strategy ∷ At ∷

@@ -1,6 +1,6 @@
 -- The words of a line.
 use Prim.Native.Nat.{ℕ, _+_, _-_, _<_, _≤_}
-use mathlib.Core.Bool.{Bool, true, false, cond, not, _&&_, _||_}
+use mathlib.Core.Bool.{Bool, false, cond, not, _&&_, _||_}
 use mathlib.Core.List.{List, [], _∷_, _++_}
 use mathlib.Core.Path.{_≡_}
 use lib.Dec.{eqb}
@@ -19,7 +19,7 @@ use Rattle.script.specs.declared.lex.Span.{Span}
 use Rattle.script.specs.declared.lex.Unread.{Unread}
 use Rattle.script.specs.declared.lex.Unread.the-variants.{Memory, Unknown}
 use Rattle.script.specs.declared.word.Word.{Word}
-use Rattle.script.specs.Words.{wordOf}
+use Rattle.script.specs.Words.{Fit, wordOf, written}
 
 -- no `#`
 abbrev pub beforeComment : ℕ → Bool
@@ -92,3 +92,18 @@ abbrev pub Reads : List ℕ → Result (Vec Word Global) Unread → Type 0
 Reads line (Ok v) = lexed line ≡ Ok (vec-items v)
 Reads line (Err Memory) = Unit {0}
 Reads line (Err (Unknown s)) = (lexed line ≡ Err s) × (s .start < s .end) × (s .end ≤ length line)
+
+-- words written one after another, with a space after each
+abbrev pub writtenAll : List Word → List ℕ
+writtenAll [] = []
+writtenAll (w ∷ ws) = written w ++ (32 ∷ writtenAll ws)
+
+abbrev pub AllFit : List Word → Type 0
+AllFit [] = Unit {0}
+AllFit (w ∷ ws) = Fit w × AllFit ws
+
+-- these words, unless memory fails
+abbrev pub Gives : List Word → Result (Vec Word Global) Unread → Type 0
+Gives ws (Ok v) = vec-items v ≡ ws
+Gives ws (Err Memory) = Unit {0}
+Gives ws (Err (Unknown s)) = ⊥

@@ -23,7 +23,7 @@ use Rattle.script.specs.declared.line.ShareKind.the-variants as rule
 use Rattle.script.specs.declared.line.Statement.{Statement}
 use Rattle.script.specs.declared.line.Statement.the-variants.{Market, Band, Share, List as Listed, Open, Board, Book, Read}
 use Rattle.script.specs.declared.word.Word.{Word}
-use Rattle.script.specs.declared.word.Word.the-variants.{Key, Comma, Number, Negative}
+use Rattle.script.specs.declared.word.Word.the-variants.{Key, Number}
 use Rattle.script.specs.Forms.{andThen, ended, keyThen, numberThen}
 use Rattle.script.specs.Keywords.{is}
 use Rattle.script.specs.Legs.{legsOf, legsWords}

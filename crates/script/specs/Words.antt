@@ -1,6 +1,6 @@
 -- Which word a spelling is.
 use Prim.Native.Nat.{ℕ, suc, _+_, _-_, _*_, _<_}
-use mathlib.Core.Bool.{Bool, true, false, cond, _&&_}
+use mathlib.Core.Bool.{Bool, false, cond, _&&_}
 use mathlib.Core.List.{List, [], _∷_}
 use mathlib.Core.Path.{_≡_}
 use lib.Chars.{codes}
@@ -12,7 +12,6 @@ use Rattle.std.specs.Written.{decimal}
 use Rattle.std.specs.declared.option.Option.{Option}
 use Rattle.std.specs.declared.option.Option.the-variants.{Some, None}
 use Rattle.std.specs.shelf.Text.{allDigits}
-use Rattle.script.specs.declared.keyword.Keyword.{Keyword}
 use Rattle.script.specs.declared.word.Word.{Word}
 use Rattle.script.specs.declared.word.Word.the-variants.{Key, Comma, Number, Negative}
 use Rattle.script.specs.Keywords.{keywordOf, spelling}

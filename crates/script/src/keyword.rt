@@ -2,9 +2,9 @@
 ghost use mathlib.Core.Path.{_≡_};
 ghost use Rattle.std.specs.declared.option.Option.the-variants.{Some};
 ghost use Rattle.script.specs.declared.keyword.Keyword.{Keyword};
-ghost use Rattle.script.specs.Keywords.{keywordIn, keywordOf, spelling};
+ghost use Rattle.script.specs.Keywords.{keywordIn, keywordOf, keywords, spelling};
 
-#[derive(Clone, Copy)]
+#[derive(Clone, Copy, PartialEq, Eq, Debug)]
 pub enum Keyword {
     Market,
     Board,
@@ -138,10 +138,10 @@ impl Keyword {
 }
 
 // The first of these keywords that is spelled so.
-fn spelled_among(keywords: &[Keyword], bytes: &[u8]) -> Option<Keyword>
-    ensures { λ r. ⌜ r ≡ keywordIn (now (keywords .entry)) (now (bytes .entry)) ⌝ }
+fn spelled_among(some: &[Keyword], bytes: &[u8]) -> Option<Keyword>
+    ensures { λ r. ⌜ r ≡ keywordIn (now (some .entry)) (now (bytes .entry)) ⌝ }
 {
-    for keyword in keywords {
+    for keyword in some {
         if keyword.spelling().as_bytes() == bytes {
             return Some(*keyword);
         }
@@ -149,10 +149,16 @@ fn spelled_among(keywords: &[Keyword], bytes: &[u8]) -> Option<Keyword>
     None
 }
 
+fn all_keywords() -> &'static [Keyword]
+    ensures { λ r. ⌜ now r ≡ keywords ⌝ }
+{
+    &ALL
+}
+
 // The keyword that is spelled so.
 pub fn keyword_of(bytes: &[u8]) -> Option<Keyword>
     ensures value { λ r. ⌜ r ≡ keywordOf (now (bytes .entry)) ⌝ }
     ensures inverse { λ _. ⌜ ((k : Keyword) → keywordOf (spelling k) ≡ Some k) ⌝ }
 {
-    spelled_among(&ALL, bytes)
+    spelled_among(all_keywords(), bytes)
 }

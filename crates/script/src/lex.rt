@@ -1,12 +1,12 @@
 // A line cut into its words.
-ghost use mathlib.Core.List.{[]};
+ghost use mathlib.Core.List.{List};
 ghost use mathlib.Core.Path.{_≡_};
-ghost use Prim.Native.Nat.{_+_, _-_, _<_, _≤_};
-ghost use lib.ListN.{drop, length};
-ghost use Rattle.std.specs.Options.{Cases};
+ghost use Prim.Native.Nat.{_≤_};
+ghost use lib.ListN.{length};
 ghost use Rattle.std.specs.shelf.Lists.{leading};
 ghost use Rattle.script.specs.declared.lex.Unread.the-variants.{Memory};
-ghost use Rattle.script.specs.Lexed.{Next, Reads, inRun, spellingLen};
+ghost use Rattle.script.specs.declared.word.Word.{Word};
+ghost use Rattle.script.specs.Lexed.{AllFit, Gives, Next, Reads, inRun, spellingLen, writtenAll};
 use crate::word::Word;
 use crate::word::word_of;
 use std::alloc::Global;
@@ -91,8 +91,7 @@ fn next_spelling(text: &[u8], at: usize) -> Option<Span>
     Some(Span { start, end })
 }
 
-// The words of a line, or why it has none.
-pub fn words(heap: Global, line: &[u8]) -> Result<Vec<Word>, Unread>
+fn lexed_words(heap: Global, line: &[u8]) -> Result<Vec<Word>, Unread>
     ensures { λ r. ⌜ Reads (now (line .entry)) r ⌝ }
 {
     let text = &line[0..run_len(Run::Uncommented, line)];
@@ -107,4 +106,12 @@ pub fn words(heap: Global, line: &[u8]) -> Result<Vec<Word>, Unread>
         at = end;
     }
     Ok(words)
+}
+
+// The words of a line, or why it has none. Words that are written one after another are read back.
+pub fn words(heap: Global, line: &[u8]) -> Result<Vec<Word>, Unread>
+    ensures value { λ r. ⌜ Reads (now (line .entry)) r ⌝ }
+    ensures inverse { λ r. ⌜ ((ws : List Word) → AllFit ws → now (line .entry) ≡ writtenAll ws → Gives ws r) ⌝ }
+{
+    lexed_words(heap, line)
 }

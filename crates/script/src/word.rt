@@ -7,9 +7,12 @@ ghost use Rattle.std.specs.declared.option.Option.the-variants.{Some};
 ghost use Rattle.script.specs.declared.word.Word.{Word};
 ghost use Rattle.script.specs.Words.{Fit, minus, numberBelow, numeralOf, plain, wordOf, written};
 use crate::keyword::Keyword;
+use crate::keyword::KeywordDebug;
+use crate::keyword::KeywordEq;
+use crate::keyword::KeywordPartialEq;
 use crate::keyword::keyword_of;
 
-#[derive(Clone, Copy)]
+#[derive(Clone, Copy, PartialEq, Eq, Debug)]
 pub enum Word {
     Key(Keyword),
     Comma,

@@ -1,4 +1,1 @@
-pub mod Rowing
 pub mod Listings
-pub mod Starting
-pub mod Looking

@@ -1,49 +1,48 @@
--- The call that lists a strategy.
-use Prim.Native.Nat.{ℕ, _+_, _<_, _≤_}
-use mathlib.Core.Bool.{Bool, true, false, cond, not}
+-- The strategies listed, as tables and as lists of legs.
+use Prim.Native.Nat.{ℕ, _+_, _-_, _<_, _≤_}
+use mathlib.Core.Bool.{Bool, true, false, cond}
 use mathlib.Core.List.{List, [], _∷_, _++_, map}
+use mathlib.Core.Logic.{_⊎_, ⊎-elim}
 use mathlib.Core.Path.{_≡_, refl, sym, ap, _∙_}
 use native.Mathlib.Omega.{arith}
 use lib.Dec.{leb, ltb}
-use lib.ListN.{length}
-use Rattle.std.proofs.shelf.Lists.{length-map, map-push}
-use Rattle.std.proofs.shelf.Tests.{cond-false, cond-true, le-ltb, not-from-true}
+use lib.ListN.{length, getD}
+use Rattle.std.proofs.shelf.Lists.{getD-map, length-map, map-push}
+use Rattle.std.proofs.shelf.Tests.{cond-false, cond-true}
 use Rattle.std.proofs.shelf.Ways.{tells}
 use Rattle.std.specs.declared.option.Option.{Option}
 use Rattle.std.specs.declared.option.Option.the-variants.{Some, None}
+use Rattle.terms.specs.Ranges.{between}
 use Rattle.terms.specs.declared.leg.Leg.{Leg}
 use Rattle.terms.specs.declared.strategy.Strategy.{Strategy}
-use Rattle.terms.specs.Legs.{wellFormed}
-use Rattle.terms.specs.Refusals.{Told, answered, nothing, refused, row}
 use Rattle.terms.specs.Strategies.{legsOf}
-use Rattle.session.proofs.Rowing.{answers, refuses, unless-pass}
-use Rattle.session.specs.declared.state.Phase.the-variants.{Listing}
-use Rattle.session.specs.States.{State, withStrategies}
-use Rattle.session.specs.Steps.{Does, dueCount, listRows, listStep, listing, when}
+use Rattle.session.specs.Steps.{strategyAt}
 
-formed-by : (b : Bool) (x y : List Leg) → _≡_ {A = Option (List Leg)} (Some x) (cond b (Some y) None) → (b ≡ true) × (x ≡ y)
-formed-by true x y e = (refl, grind arith)
-formed-by false x y e = let z : _≡_ {A = ℕ} 0 1 = cc in absurd (omega arith)
+listed-length : (xs : List Strategy) → length (map legsOf xs) ≡ length xs
+listed-length xs = length-map xs legsOf
 
-pub listed-length : (ls : List (List Leg)) (xs : List Strategy) → ls ≡ map legsOf xs → length ls ≡ length xs
-listed-length ls xs e = ap length e ∙ length-map xs legsOf
+pub full-length : (xs : List Strategy) (b : Bool) → b ≡ leb 8 (length xs) → b ≡ leb 8 (length (map legsOf xs))
+full-length xs b e = e ∙ ap (leb 8) (sym (listed-length xs))
 
-module _ {Mo S : Type 0} (F : Type 0) (s : State Mo S) (legs : List Leg) (xs : List Strategy) (st : Strategy) (n : ℕ)
-  (same : s .strategies ≡ map legsOf xs) (phase : s .phase ≡ Listing) (count : n ≡ dueCount s) (none : n ≤ 0)
-  (made : _≡_ {A = Option (List Leg)} (Some (legsOf st)) (cond (wellFormed legs) (Some legs) None)) where
+pub next-number : (xs ys : List Strategy) → ys ≡ xs → length ys + 1 ≡ length (map legsOf xs) + 1
+next-number xs ys e = ap (λ n. n + 1) (ap length e ∙ sym (listed-length xs))
 
-  rows : (b : Bool) → leb 8 (length xs) ≡ b → listRows {F = F} s legs ≡ cond b (Some (row 4 nothing)) None
-  rows b e =
-      unless-pass s (listing (s .phase)) _ (ap listing phase) (omega arith)
-      ∙ (cond-false (not (wellFormed legs)) (Some (row 3 nothing)) (when (leb 8 (length (s .strategies))) (row 4 nothing) None) (not-from-true (wellFormed legs) (formed-by (wellFormed legs) _ _ made .0))
-      ∙ ap (λ x. cond x (Some (row 4 nothing)) None) (ap (leb 8) (listed-length (s .strategies) xs same) ∙ e))
+pub one-more : (xs ys : List Strategy) (st : Strategy) (b : Bool) → leb 8 (length (map legsOf xs)) ≡ false → b ≡ ltb (length xs) 8 → ys ≡ cond b (xs ++ (st ∷ [])) xs → map legsOf ys ≡ map legsOf xs ++ (legsOf st ∷ [])
+one-more xs ys st b h e f =
+    let k = listed-length xs in
+    ap (map legsOf) (f ∙ cond-true b (xs ++ (st ∷ [])) xs (grind (arith, tells))) ∙ map-push legsOf xs st
 
-  pub list-full : true ≡ leb 8 (length xs) → Does {F = F} (listStep s legs) (refused (row 4 nothing)) s
-  list-full e = refuses _ _ _ _ _ _ (rows true (sym e)) refl
+module _ (xs ys : List Strategy) (n : ℕ) (read : ys ≡ xs) where
+  within : (b : Bool) → between 1 (length ys) n ≡ b → between 1 (length (map legsOf xs)) n ≡ b
+  within b e = ap (λ k. between 1 k n) (listed-length xs ∙ sym (ap length read)) ∙ e
 
-  pub list-done : (k : ℕ) (b : Bool) (ys : List Strategy) (s′ : State Mo S) → false ≡ leb 8 (length xs) → k ≡ length xs → b ≡ ltb (length xs) 8 → ys ≡ cond b (xs ++ (st ∷ [])) xs → s′ ≡ withStrategies s (map legsOf ys) → Does {F = F} (listStep s legs) (answered (k + 1)) s′
-  list-done k b ys s′ e f i g h =
-      answers _ _ _ _ _ _ (rows false (sym e)) (ap (λ m. m + 1) (f ∙ sym (listed-length (s .strategies) xs same)))
-      (h ∙ ap (withStrategies s)
-          (ap (map legsOf) (g ∙ cond-true b (xs ++ (st ∷ [])) xs (grind (arith, tells)))
-          ∙ (map-push legsOf xs st ∙ (ap (λ ls. ls ++ (legsOf st ∷ [])) (sym same) ∙ ap (λ l. s .strategies ++ (l ∷ [])) (formed-by (wellFormed legs) _ _ made .1)))))
+  pub unlisted : (n < 1) ⊎ (length ys < n) → None ≡ strategyAt (map legsOf xs) n
+  unlisted h =
+      sym (cond-false (between 1 (length (map legsOf xs)) n) (Some (getD (map legsOf xs) (n - 1) [])) None
+      (within false (⊎-elim (λ k. grind (arith, tells)) (λ k. grind (arith, tells)) h)))
+
+  pub listed-at : (st : Strategy) → 1 ≤ n → n ≤ length ys → st ≡ getD ys (n - 1) st → Some (legsOf st) ≡ strategyAt (map legsOf xs) n
+  listed-at st low high at =
+      let h : n - 1 < length xs = omega (arith, ap length read) in
+      ap Some (ap legsOf (at ∙ ap (λ zs. getD zs (n - 1) st) read) ∙ sym (getD-map legsOf xs (n - 1) st [] h))
+      ∙ sym (cond-true (between 1 (length (map legsOf xs)) n) (Some (getD (map legsOf xs) (n - 1) [])) None (within true (grind (arith, tells))))

@@ -89,21 +89,25 @@ noticeRows why s n = unlessDue s (opened (s .phase)) (faultRow (why (s .market) 
 abbrev pub noticeStep : {Mo S N F : Type 0} → (Mo → N → Option F) → (Mo → N → Mo) → State Mo S → N → Done Mo S Placing F
 noticeStep why after s n = answerUnless (noticeRows why s n) s Booked (withMarket s (after (s .market) n))
 
--- the legs of a strategy, by its number
-abbrev pub legsAt : {Mo S : Type 0} → State Mo S → ℕ → List Leg
-legsAt s n = getD (s .strategies) (n - 1) []
+-- the legs of a strategy, by its number from 1; none if none is so numbered
+abbrev pub strategyAt : List (List Leg) → ℕ → Option (List Leg)
+strategyAt ls n = cond (range.between 1 (length ls) n) (Some (getD ls (n - 1) [])) None
 
-abbrev pub listed : {Mo S : Type 0} → State Mo S → ℕ → Bool
-listed s n = range.between 1 (length (s .strategies)) n
+-- what there is of a strategy with these legs
+abbrev pub readingFor : {Mo S : Type 0} → (Mo → ℕ → Side → Option Top) → State Mo S → ℕ → List Leg → Reading
+readingFor top s n legs = record {
+  sbb = syntheticOf (top (s .market)) Buy legs;
+  sbo = syntheticOf (top (s .market)) Sell legs;
+  running = countBy (counted (standing.RunningIn n)) (s .auctions);
+  due = countBy (counted (standing.DueIn n)) (s .auctions);
+  buy = sumBy (resting n Buy) (s .orders);
+  sell = sumBy (resting n Sell) (s .orders);
+}
 
-abbrev pub readingOf : {Mo S : Type 0} → (Mo → ℕ → Side → Option Top) → State Mo S → ℕ → Reading
-readingOf top s n = record {
-    sbb = syntheticOf (top (s .market)) Buy (legsAt s n);
-    sbo = syntheticOf (top (s .market)) Sell (legsAt s n);
-    running = countBy (counted (standing.RunningIn n)) (s .auctions);
-    due = countBy (counted (standing.DueIn n)) (s .auctions);
-    buy = sumBy (resting n Buy) (s .orders);
-    sell = sumBy (resting n Sell) (s .orders) }
+-- an unknown strategy is refused
+abbrev pub readBy : {Mo S F : Type 0} → (Mo → ℕ → Side → Option Top) → State Mo S → ℕ → Option (List Leg) → Done Mo S Reading F
+readBy top s n None = record { says = refused (row 3 nothing); after = s }
+readBy top s n (Some legs) = record { says = answered (readingFor top s n legs); after = s }
 
 abbrev pub readStep : {Mo S F : Type 0} → (Mo → ℕ → Side → Option Top) → State Mo S → ℕ → Done Mo S Reading F
-readStep top s n = answerUnless (when (not (listed s n)) (row 3 nothing) None) s (readingOf top s n) s
+readStep top s n = readBy top s n (strategyAt (s .strategies) n)

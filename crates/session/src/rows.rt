@@ -1,16 +1,21 @@
 // Counts over the tables of a session.
 ghost use Prim.Native.Nat.{_≤_};
 ghost use mathlib.Core.Bool.{cond};
+ghost use mathlib.Core.List.{map};
 ghost use mathlib.Core.Path.{_≡_};
 ghost use lib.ListN.{length};
 ghost use Rattle.std.specs.shelf.Lists.{countBy, sumBy};
 ghost use Rattle.terms.specs.Tables.{entries};
+ghost use Rattle.std.specs.Options.{mapped};
+ghost use Rattle.terms.specs.Strategies.{legsOf};
+ghost use Rattle.session.specs.Steps.{strategyAt};
 ghost use Rattle.session.specs.Rows.{counted, resting};
 use terms::auction::AuctionRow;
 use terms::auction::Stage;
 use terms::order::Order;
 use terms::side::Side;
 use terms::side::SidePartialEq;
+use terms::strategy::Strategy;
 use terms::table::Table;
 
 // Which auctions to count: all that are due, or those of a strategy that are running or due.
@@ -89,4 +94,16 @@ pub fn contracts_resting(orders: &Table<Order, 64>, strategy: u32, side: Side) -
     ensures { λ r. ⌜ r ≡ sumBy (resting strategy side) (entries (now (orders .entry))) ⌝ }
 {
     contracts_among(orders.entries(), strategy, side)
+}
+
+// The strategy of this number, from 1, among those listed.
+pub fn strategy_at(listed: &Table<Strategy, 8>, number: u32) -> Option<Strategy>
+    ensures { λ r. ⌜ mapped legsOf r ≡ strategyAt (map legsOf (entries (now (listed .entry)))) number ⌝ }
+{
+    let listed = listed.entries();
+    if number < 1 || number as usize > listed.len() {
+        return None;
+    }
+    let strategy = &listed[number as usize - 1];
+    Some(*strategy)
 }

@@ -7,6 +7,7 @@ use terms::table::Table;
 
 mod list;
 mod notice;
+mod open;
 mod read;
 mod start;
 

@@ -47,7 +47,13 @@ fn too_far(width: &Width, before: Option<Top>, after: Option<Top>) -> bool
 }
 
 // Whether the notice would move this top too far.
-fn moves_far<M: Market>(market: &mut M, notice: &M::Notice, width: &Width, component: u32, side: Side) -> bool
+fn moves_far<M: Market>(
+    market: &mut M,
+    notice: &M::Notice,
+    width: &Width,
+    component: u32,
+    side: Side,
+) -> bool
     ensures value { λ r. ⌜ r ≡ tooFar (widthOf (now (width .entry))) (M·Market .top (M·Market .model (now (market .entry))) component side) (M·Market .top (led (M·Market .fault) (M·Market .after) (M·Market .model (now (market .entry))) (now (notice .entry))) component side) ⌝ }
     ensures same { λ _. ⌜ now (market .exit) ≡ now (market .entry) ⌝ }
 {
@@ -57,11 +63,17 @@ fn moves_far<M: Market>(market: &mut M, notice: &M::Notice, width: &Width, compo
 }
 
 // Whether the notice would move a top of this component too far.
-fn component_moves<M: Market>(market: &mut M, notice: &M::Notice, width: &Width, component: u32) -> bool
+fn component_moves<M: Market>(
+    market: &mut M,
+    notice: &M::Notice,
+    width: &Width,
+    component: u32,
+) -> bool
     ensures value { λ r. ⌜ r ≡ wouldMove (M·Market .top) (M·Market .fault) (M·Market .after) (widthOf (now (width .entry))) (M·Market .model (now (market .entry))) (now (notice .entry)) component ⌝ }
     ensures same { λ _. ⌜ now (market .exit) ≡ now (market .entry) ⌝ }
 {
-    moves_far(market, notice, width, component, Side::Buy) || moves_far(market, notice, width, component, Side::Sell)
+    moves_far(market, notice, width, component, Side::Buy)
+        || moves_far(market, notice, width, component, Side::Sell)
 }
 
 // The lowest component of which the notice would move a top too far.
@@ -82,6 +94,7 @@ where
     M::Fault: Outside,
 {
     type Notice = M::Notice;
+
     type Fault = M::Fault;
 
     ghost Model = { Banded (M·Market .Model) };

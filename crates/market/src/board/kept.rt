@@ -37,13 +37,23 @@ impl BoardNotice {
         ensures { λ r. ⌜ r ≡ boardFault (now (self .entry)) ⌝ }
     {
         let (component, priced) = match self {
-            BoardNotice::Set { component, price, .. } => (*component, Price::new(*price).is_some()),
+            BoardNotice::Set {
+                component,
+                price,
+                ..
+            } => (*component, Price::new(*price).is_some()),
             BoardNotice::Clear { component, .. } => (*component, true),
         };
         if component < 1 || component > 16 {
-            Some(Fault { component: 0, cause: Cause::OutOfRange })
+            Some(Fault {
+                component: 0,
+                cause: Cause::OutOfRange,
+            })
         } else if !priced {
-            Some(Fault { component, cause: Cause::OutOfRange })
+            Some(Fault {
+                component,
+                cause: Cause::OutOfRange,
+            })
         } else {
             None
         }
@@ -55,7 +65,10 @@ impl Board {
     pub fn new() -> Board
         ensures { λ r. ⌜ ((c : ℕ) (s : Side) → boardTop r c s ≡ None) ⌝ }
     {
-        Board { bids: [None; 16], offers: [None; 16] }
+        Board {
+            bids: [None; 16],
+            offers: [None; 16],
+        }
     }
 
     fn top(&self, component: u32, side: Side) -> Option<Top>
@@ -88,7 +101,11 @@ impl BoardNotice {
         ensures { λ r. ⌜ r ≡ heard (now (self .entry)) ⌝ }
     {
         match self {
-            BoardNotice::Set { price, customer, .. } => Top::new(*price, *customer),
+            BoardNotice::Set {
+                price,
+                customer,
+                ..
+            } => Top::new(*price, *customer),
             BoardNotice::Clear { .. } => None,
         }
     }
@@ -98,14 +115,22 @@ impl BoardNotice {
         ensures { λ r. ⌜ r ≡ speaksOf (now (self .entry)) component side ⌝ }
     {
         match self {
-            BoardNotice::Set { component: c, side: s, .. } => *c == component && *s == side,
-            BoardNotice::Clear { component: c, side: s } => *c == component && *s == side,
+            BoardNotice::Set {
+                component: c,
+                side: s,
+                ..
+            } => *c == component && *s == side,
+            BoardNotice::Clear {
+                component: c,
+                side: s,
+            } => *c == component && *s == side,
         }
     }
 }
 
 pub impl Market for Board as BoardMarket {
     type Notice = BoardNotice;
+
     type Fault = Fault;
 
     ghost Model = { Board };
@@ -142,7 +167,11 @@ pub impl Market for Board as BoardMarket {
         }
         let top = notice.heard();
         match notice {
-            BoardNotice::Set { component, side, .. } => self.set(*component, *side, top),
+            BoardNotice::Set {
+                component,
+                side,
+                ..
+            } => self.set(*component, *side, top),
             BoardNotice::Clear { component, side } => self.set(*component, *side, top),
         }
         Ok(())

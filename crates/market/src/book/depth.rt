@@ -10,7 +10,7 @@ ghost use Rattle.terms.specs.Tables.{entries};
 ghost use Rattle.terms.specs.Tops.{topOf};
 ghost use Rattle.market.specs.Meaning.{led};
 ghost use Rattle.market.specs.declared.book.BookOrder.{BookOrder};
-ghost use Rattle.market.specs.Books.{addFault, bestAmong, better, bookAfter, bookFault, bookTop, joined, orderOf, placeOf, withOrder, withdrawFault};
+ghost use Rattle.market.specs.Books.{ShowsBest, addFault, bestAmong, better, bookAfter, bookFault, bookTop, joined, orderOf, placeOf, withOrder, withdrawFault};
 use super::BookNotice;
 use super::BookOrder;
 use super::DepthBook;
@@ -43,7 +43,10 @@ fn joined(side: Side, best: &Top, top: &Top) -> Top
     } else if better(side, top, best) {
         *top
     } else {
-        Top { price: best.price, customer: best.customer || top.customer }
+        Top {
+            price: best.price,
+            customer: best.customer || top.customer,
+        }
     }
 }
 
@@ -63,7 +66,12 @@ impl BookOrder {
 }
 
 // The best so far of a component and side, with those of these orders that are there.
-fn best_among(component: u32, side: Side, mut best: Option<Top>, orders: &[BookOrder]) -> Option<Top>
+fn best_among(
+    component: u32,
+    side: Side,
+    mut best: Option<Top>,
+    orders: &[BookOrder],
+) -> Option<Top>
     ensures { λ r. ⌜ r ≡ bestAmong component side best (now (orders .entry)) ⌝ }
 {
     for order in orders {
@@ -119,11 +127,22 @@ fn top_without(component: u32, side: Side, orders: &[BookOrder], at: usize) -> O
 }
 
 // The order with these values, if the price is in range.
-fn order_of(number: u32, component: u32, side: Side, price: u32, customer: bool) -> Option<BookOrder>
+fn order_of(
+    number: u32,
+    component: u32,
+    side: Side,
+    price: u32,
+    customer: bool,
+) -> Option<BookOrder>
     ensures { λ r. ⌜ r ≡ orderOf number component side (topOf price customer) ⌝ }
 {
     match Top::new(price, customer) {
-        Some(top) => Some(BookOrder { number, component, side, top }),
+        Some(top) => Some(BookOrder {
+            number,
+            component,
+            side,
+            top,
+        }),
         None => None,
     }
 }
@@ -133,7 +152,13 @@ fn book_fault(orders: &[BookOrder], notice: &BookNotice) -> Option<Fault>
     ensures { λ r. ⌜ r ≡ bookFault (now (orders .entry)) (now (notice .entry)) ⌝ }
 {
     match notice {
-        BookNotice::Add { number, component, price, customer, .. } => {
+        BookNotice::Add {
+            number,
+            component,
+            price,
+            customer,
+            ..
+        } => {
             let priced = Top::new(*price, *customer).is_some();
             add_fault(orders, *number, *component, priced)
         }
@@ -145,16 +170,28 @@ fn add_fault(orders: &[BookOrder], number: u32, component: u32, priced: bool) ->
     ensures { λ r. ⌜ r ≡ addFault (now (orders .entry)) number component priced ⌝ }
 {
     if component < 1 || component > 16 {
-        return Some(Fault { component: 0, cause: Cause::OutOfRange });
+        return Some(Fault {
+            component: 0,
+            cause: Cause::OutOfRange,
+        });
     }
     if number < 1 || number > 999_999 || !priced {
-        return Some(Fault { component, cause: Cause::OutOfRange });
+        return Some(Fault {
+            component,
+            cause: Cause::OutOfRange,
+        });
     }
     if orders.len() >= 64 {
-        return Some(Fault { component, cause: Cause::BookFull });
+        return Some(Fault {
+            component,
+            cause: Cause::BookFull,
+        });
     }
     if place_of(number, orders) < orders.len() {
-        return Some(Fault { component, cause: Cause::OrderNumber });
+        return Some(Fault {
+            component,
+            cause: Cause::OrderNumber,
+        });
     }
     None
 }
@@ -163,10 +200,16 @@ fn withdraw_fault(orders: &[BookOrder], number: u32) -> Option<Fault>
     ensures { λ r. ⌜ r ≡ withdrawFault (now (orders .entry)) number ⌝ }
 {
     if number < 1 || number > 999_999 {
-        return Some(Fault { component: 0, cause: Cause::OutOfRange });
+        return Some(Fault {
+            component: 0,
+            cause: Cause::OutOfRange,
+        });
     }
     if place_of(number, orders) >= orders.len() {
-        return Some(Fault { component: 0, cause: Cause::OrderNumber });
+        return Some(Fault {
+            component: 0,
+            cause: Cause::OrderNumber,
+        });
     }
     None
 }
@@ -183,6 +226,7 @@ impl DepthBook {
 
 pub impl Market for DepthBook as DepthBookMarket {
     type Notice = BookNotice;
+
     type Fault = Fault;
 
     ghost Model = { List BookOrder };
@@ -195,7 +239,11 @@ pub impl Market for DepthBook as DepthBookMarket {
 
     ghost after = { bookAfter };
 
-    fn tell(&mut self, component: u32, side: Side) -> Option<Top> {
+    fn tell(&mut self, component: u32, side: Side) -> Option<Top>
+        ensures value { λ r. ⌜ r ≡ bookTop (entries (now (self .entry) .orders)) component side ⌝ }
+        ensures same { λ _. ⌜ now (self .exit) ≡ now (self .entry) ⌝ }
+        ensures best { λ r. ⌜ ShowsBest (entries (now (self .entry) .orders)) component side r ⌝ }
+    {
         top_among(component, side, self.orders.entries())
     }
 
@@ -208,7 +256,13 @@ pub impl Market for DepthBook as DepthBookMarket {
             return Err(fault);
         }
         match notice {
-            BookNotice::Add { number, component, side, price, customer } => {
+            BookNotice::Add {
+                number,
+                component,
+                side,
+                price,
+                customer,
+            } => {
                 if let Some(order) = order_of(*number, *component, *side, *price, *customer) {
                     let _added = self.orders.add(order);
                 }
@@ -230,7 +284,13 @@ fn foreseen(component: u32, side: Side, orders: &[BookOrder], notice: &BookNotic
         return top_among(component, side, orders);
     }
     match notice {
-        BookNotice::Add { number, component: c, side: s, price, customer } => match order_of(*number, *c, *s, *price, *customer) {
+        BookNotice::Add {
+            number,
+            component: c,
+            side: s,
+            price,
+            customer,
+        } => match order_of(*number, *c, *s, *price, *customer) {
             Some(order) => top_with(component, side, orders, &order),
             None => top_among(component, side, orders),
         },

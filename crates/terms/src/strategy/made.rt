@@ -46,7 +46,11 @@ impl Strategy {
             return None;
         }
         let count = legs.len();
-        let unused = Leg { component: 0, side: Side::Buy, ratio: 0 };
+        let unused = Leg {
+            component: 0,
+            side: Side::Buy,
+            ratio: 0,
+        };
         let mut kept = [unused; 4];
         kept[0..count].copy_from_slice(legs);
         Some(Strategy { legs: kept, count })

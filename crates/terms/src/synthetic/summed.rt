@@ -64,7 +64,10 @@ impl Strategy {
         ensures range { λ r. ⌜ Cases r (Unit {0}) (λ s. complexPrice (s .price) ≡ true) ⌝ }
     {
         let legs = self.legs();
-        let mut sum = Synthetic { price: 0, customer: false };
+        let mut sum = Synthetic {
+            price: 0,
+            customer: false,
+        };
         for i in 0..legs.len() {
             if i >= tops.len() {
                 return None;

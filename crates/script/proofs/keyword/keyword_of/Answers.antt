@@ -1,7 +1,8 @@
-use Rattle.script.proofs.Lookups.{found}
-use Rattle.script.specs.Keywords.{keywords, keywordOf}
+use Rattle.script.proofs.Lookups.{found, looked-up}
 use Rattle.script.proofs.keyword.keyword_of.Needs as need
 
 pub returns : need.returns
-unfolding keywords keywordOf
-returns c = record { value = c .spelled-among .ensures; inverse = found }
+returns c = record {
+  value = looked-up _ _ _ (c .all-keywords .ensures) (c .spelled-among .ensures);
+  inverse = found;
+}

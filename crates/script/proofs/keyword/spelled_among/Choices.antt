@@ -4,4 +4,4 @@ use Rattle.script.specs.Keywords.{keywordIn}
 use Rattle.script.proofs.keyword.spelled_among.Given as given
 
 abbrev pub Inv-loop-keyword : given.InvT-loop-keyword
-Inv-loop-keyword l = keywordIn (drop (l .keyword-index) (l .keywords)) (l .bytes) ≡ keywordIn (l .keywords) (l .bytes)
+Inv-loop-keyword l = keywordIn (drop (l .keyword-index) (l .some)) (l .bytes) ≡ keywordIn (l .some) (l .bytes)

@@ -11,11 +11,12 @@ use Rattle.session.proofs.rows.tally.Needs as need
 
 pub loop-row-again : need.loop-row-again
 loop-row-again c =
-    let h : c .loop-row .row-index < length (c .args .rows .now) = omega arith in
-    ( sum-on (λ (o : Option AuctionRow). cond (counted (c .args .which) o) 1 0) _ _ _ (c .loop-row .inv .0) _ _ h
-        (c .one-if-n .ensures .value ∙ ap (λ b. cond b 1 0) (c .counts .ensures))
-    , omega arith
-    , c .loop-row .inv .2 )
+    let h : c .loop-row .row-index < length (c .args .rows .now) = omega arith in (
+      sum-on (λ (o : Option AuctionRow). cond (counted (c .args .which) o) 1 0) _ _ _ (c .loop-row .inv .0) _ _ h
+          (c .one-if-n .ensures .value ∙ ap (λ b. cond b 1 0) (c .counts .ensures)),
+      omega arith,
+      c .loop-row .inv .2,
+    )
 
 pub returns : need.returns
 returns c =

@@ -7,28 +7,33 @@ use Rattle.terms.proofs.strategy.Strategy.synthetic.Needs as need
 
 pub returns-then-i-tops : need.returns-then-i-tops
 returns-then-i-tops c = record {
-    value = short-tops _ _ _ _ (c .loop-i .inv .0) (c .loop-i-test .taken) (c .if-i-tops .taken) ∙ ap (λ ls. summed nought ls (c .args .tops .now)) (c .legs-legs .ensures .value);
-    range = tt }
+  value = short-tops _ _ _ _ (c .loop-i .inv .0) (c .loop-i-test .taken) (c .if-i-tops .taken) ∙ ap (λ ls. summed nought ls (c .args .tops .now)) (c .legs-legs .ensures .value);
+  range = tt;
+}
 
 pub returns-in-rest : need.returns-in-rest
 returns-in-rest c = record {
-    value = absent-top _ _ _ _ (c .loop-i .inv .0) _ (c .loop-i-test .taken) (c .if-i-tops .left) (c .index-tops-i .is) (c .in-rest .is) ∙ ap (λ ls. summed nought ls (c .args .tops .now)) (c .legs-legs .ensures .value);
-    range = tt }
+  value = absent-top _ _ _ _ (c .loop-i .inv .0) _ (c .loop-i-test .taken) (c .if-i-tops .left) (c .index-tops-i .is) (c .in-rest .is) ∙ ap (λ ls. summed nought ls (c .args .tops .now)) (c .legs-legs .ensures .value);
+  range = tt;
+}
 
 pub plus-sum-requires : need.plus-sum-requires
 plus-sum-requires c κs = record {
-    fit = fit-here _ _ _ (c .loop-i-test .taken) (c .loop-i .inv .1);
-    few = omega arith;
-    bound = c .loop-i .inv .3 }
+  fit = fit-here _ _ _ (c .loop-i-test .taken) (c .loop-i .inv .1);
+  few = omega arith;
+  bound = c .loop-i .inv .3;
+}
 
 pub loop-i-again : need.loop-i-again
-loop-i-again c =
-    ( on-top _ _ _ _ (c .loop-i .inv .0) _ _ _ _ (c .loop-i-test .taken) (c .if-i-tops .left) (c .index-tops-i .is) (c .in-Some .is) (c .plus-sum .ensures .value)
-    , fit-later _ _ (record { component = 0; side = Buy; ratio = 0 }) (c .loop-i-test .taken) (c .loop-i .inv .1)
-    , c .loop-i .inv .2
-    , c .plus-sum .ensures .bound )
+loop-i-again c = (
+  on-top _ _ _ _ (c .loop-i .inv .0) _ _ _ _ (c .loop-i-test .taken) (c .if-i-tops .left) (c .index-tops-i .is) (c .in-Some .is) (c .plus-sum .ensures .value),
+  fit-later _ _ (record { component = 0; side = Buy; ratio = 0 }) (c .loop-i-test .taken) (c .loop-i .inv .1),
+  c .loop-i .inv .2,
+  c .plus-sum .ensures .bound,
+)
 
 pub returns : need.returns
 returns c = record {
-    value = sum-end _ _ _ _ (c .loop-i .inv .0) (c .loop-i-test .left) ∙ ap (λ ls. summed nought ls (c .args .tops .now)) (c .legs-legs .ensures .value);
-    range = within-range (c .loop-i .i) _ (omega arith) (c .loop-i .inv .3) }
+  value = sum-end _ _ _ _ (c .loop-i .inv .0) (c .loop-i-test .left) ∙ ap (λ ls. summed nought ls (c .args .tops .now)) (c .legs-legs .ensures .value);
+  range = within-range (c .loop-i .i) _ (omega arith) (c .loop-i .inv .3);
+}

@@ -5,8 +5,9 @@ use Rattle.terms.proofs.strategy.made.makes_strategy.Needs.{then-not-fits·by�
 
 pub returns-then-not-fits : need.returns-then-not-fits
 returns-then-not-fits c = elim (c .then-not-fits .came) [
-    then-not-fits·by·then-not-fits w ↦ unfit-here _ _ _ (c .loop-i .inv) (c .loop-i-test .taken) (sym (c .fits-in-loop-i .ensures) ∙ w .if-not-fits .taken)
-  | then-not-fits·by·else-not-fits·then-names-component w ↦ named-later _ _ _ (c .loop-i .inv) (c .loop-i-test .taken) (sym (w .names-component .ensures) ∙ w .if-names-component .taken) ]
+  | then-not-fits·by·then-not-fits w ↦ unfit-here _ _ _ (c .loop-i .inv) (c .loop-i-test .taken) (sym (c .fits-in-loop-i .ensures) ∙ w .if-not-fits .taken)
+  | then-not-fits·by·else-not-fits·then-names-component w ↦ named-later _ _ _ (c .loop-i .inv) (c .loop-i-test .taken) (sym (w .names-component .ensures) ∙ w .if-names-component .taken)
+]
 
 pub loop-i-again : need.loop-i-again
 loop-i-again c = apart-on _ _ _ (c .loop-i .inv) (c .loop-i-test .taken) (sym (c .if-not-fits .ensures tt)) (sym (c .if-names-component .ensures tt))

@@ -5,5 +5,6 @@ use Rattle.terms.proofs.synthetic.summed.plus.Needs as need
 
 pub returns : need.returns
 returns c = record {
-    value = same-synthetic _ _ _ _ (omega (arith, ints)) (c .either-customer .ensures);
-    bound = (omega (arith, ints), omega (arith, ints)) }
+  value = same-synthetic _ _ _ _ (omega (arith, ints)) (c .either-customer .ensures);
+  bound = (omega (arith, ints), omega (arith, ints));
+}

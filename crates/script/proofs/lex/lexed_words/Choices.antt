@@ -4,7 +4,7 @@ use lib.ListN.{drop, length}
 use Rattle.std.specs.Of.Vec.{vec-items}
 use Rattle.script.specs.Lexed.{readAt, spans}
 use Rattle.script.proofs.Lexing.{prefixed}
-use Rattle.script.proofs.lex.words.Given as given
+use Rattle.script.proofs.lex.lexed_words.Given as given
 
 abbrev pub Inv-loop-span : given.InvT-loop-span
 Inv-loop-span l =
