@@ -11,7 +11,7 @@ use Rattle.terms.specs.declared.side.Side.{Side}
 use Rattle.terms.specs.declared.synthetic.Synthetic.{Synthetic}
 use Rattle.terms.specs.declared.top.Top.{Top}
 use Rattle.terms.specs.Legs.{reads}
-use Rattle.terms.specs.Synthetics.{nought, priced, summed, syntheticOf}
+use Rattle.terms.specs.Synthetics.{priced, shown, syntheticOf, valued}
 
 module _ (at : ℕ → Side → Option Top) (q : Side) (ls : List Leg) (tops : List (Option Top)) (i : ℕ) (inv : take i tops ≡ take i (priced at q ls)) where
   one-more : (d : Leg) → i < length ls → take (i + 1) (priced at q ls) ≡ take i (priced at q ls) ++ (at (getD ls i d .component) (reads q (getD ls i d)) ∷ [])
@@ -25,8 +25,8 @@ module _ (at : ℕ → Side → Option Top) (q : Side) (ls : List Leg) (tops : L
       ∙ (ap (λ x. take i (priced at q ls) ++ (x ∷ [])) (f ∙ ap (at (getD ls i d .component)) e)
       ∙ sym (one-more d h)))
 
-  pub gathered-end : (ls′ : List Leg) (r : Option Synthetic) → length ls ≤ i → i ≤ length ls → ls ≡ ls′ → r ≡ summed nought ls′ (take (length ls - 0) (drop 0 tops)) → r ≡ syntheticOf at q ls′
+  pub gathered-end : (ls′ : List Leg) (r : Option Synthetic) → length ls ≤ i → i ≤ length ls → ls ≡ ls′ → r ≡ valued ls′ (shown ls′ (take (length ls - 0) (drop 0 tops))) → r ≡ syntheticOf at q ls′
   gathered-end ls′ r h k e f =
       let p : take (length ls - 0) (drop 0 tops) ≡ take i tops = ap (λ n. take n tops) (omega arith) in
       let w : take i (priced at q ls) ≡ priced at q ls = take-all i (priced at q ls) (omega (arith, length-map ls (λ (l : Leg). at (l .component) (reads q l)))) in
-      f ∙ ap (summed nought ls′) (p ∙ (inv ∙ (w ∙ ap (priced at q) e)))
+      f ∙ ap (λ ts. valued ls′ (shown ls′ ts)) (p ∙ (inv ∙ (w ∙ ap (priced at q) e)))

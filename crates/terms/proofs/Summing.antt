@@ -1,24 +1,25 @@
 -- A strategy's sum: its bounds, and the steps of the loop that works it out.
 use Prim.Native.Nat.{ℕ, _+_, _*_, _<_, _≤_}
-use mathlib.Core.Bool.{Bool, true, false, _&&_, not}
+use mathlib.Core.Bool.{Bool, true, false, _&&_, _||_, not, or-assoc, or-false}
 use mathlib.Core.List.{List, [], _∷_}
 use mathlib.Core.Path.{_≡_, refl, sym, ap, _∙_}
 use native.Mathlib.Nat.{mul-le-mul}
 use native.Mathlib.Omega.{arith}
-use lib.IntN.{ℤ}
+use lib.IntN.{ℤ, _+ℤ_}
 use lib.ListN.{length, getD, drop}
 use Rattle.std.proofs.shelf.Lists.{drop-more, drop-all, at-drop-more}
 use Rattle.std.proofs.shelf.Signed.{ints}
 use Rattle.std.proofs.shelf.Ways.{tells}
+use Rattle.std.specs.Options.{mapped}
 use Rattle.std.specs.declared.option.Option.{Option}
 use Rattle.std.specs.declared.option.Option.the-variants.{Some, None}
 use Rattle.terms.specs.declared.leg.Leg.{Leg}
 use Rattle.terms.specs.declared.side.Side.the-variants.{Buy}
 use Rattle.terms.specs.declared.synthetic.Synthetic.{Synthetic}
 use Rattle.terms.specs.declared.top.Top.{Top}
-use Rattle.terms.specs.Legs.{apart, legFits, names, wellFormed}
+use Rattle.terms.specs.Legs.{apart, legFits, names}
 use Rattle.terms.specs.Ranges.{complexPrice}
-use Rattle.terms.specs.Synthetics.{Within, nought, plus, summed}
+use Rattle.terms.specs.Synthetics.{Within, nought, plus, shown, someCustomer, summed, total, valued}
 
 -- the dearest leg: 8 times 999,999
 pub product-le : (r p : ℕ) → r ≤ 8 → p ≤ 999999 → r * p ≤ 7999992
@@ -59,5 +60,24 @@ module _ (ls : List Leg) (i : ℕ) (d : Leg) (h : i < length ls) (ok : apart (dr
 pub within-range : (n : ℕ) (z : ℤ) → n ≤ 4 → Within n z → complexPrice z ≡ true
 within-range n z h w = grind (arith, ints)
 
-pub well-formed-parts : (ls : List Leg) → wellFormed ls ≡ true → (apart ls ≡ true) × (length ls ≤ 4)
-well-formed-parts ls e = (grind (arith, tells), grind (arith, tells))
+-- a price so far, with the sum over the legs
+abbrev added : Synthetic → List Leg → List Top → Synthetic
+added s ls us = record { price = s .price +ℤ total ls us; customer = s .customer || someCustomer us }
+
+added-more : (s : Synthetic) (l : Leg) (t : Top) (ls : List Leg) (us : Option (List Top)) → mapped (added (plus s l t) ls) us ≡ mapped (added s (l ∷ ls)) (mapped (λ vs. t ∷ vs) us)
+added-more s l t ls None = refl
+added-more s l t ls (Some us) = ap Some (same-synthetic _ _ _ _ (omega (arith, ints)) (or-assoc (s .customer) (t .customer) (someCustomer us)))
+
+summed-added : (ls : List Leg) (ts : List (Option Top)) (s : Synthetic) → summed s ls ts ≡ mapped (added s ls) (shown ls ts)
+summed-added [] ts s = ap Some (same-synthetic _ _ _ _ (omega (arith, ints)) (sym (or-false (s .customer))))
+summed-added (l ∷ ls) [] s = refl
+summed-added (l ∷ ls) (None ∷ ts) s = refl
+summed-added (l ∷ ls) (Some t ∷ ts) s = summed-added ls ts (plus s l t) ∙ added-more s l t ls (shown ls ts)
+
+added-nought : (ls : List Leg) (us : Option (List Top)) → mapped (added nought ls) us ≡ valued ls us
+added-nought ls None = refl
+added-nought ls (Some us) = ap Some (same-synthetic _ _ _ _ (omega (arith, ints)) refl)
+
+-- a sum worked out leg by leg is the sum over the legs
+pub summed-valued : (ls : List Leg) (ts : List (Option Top)) → summed nought ls ts ≡ valued ls (shown ls ts)
+summed-valued ls ts = summed-added ls ts nought ∙ added-nought ls (shown ls ts)

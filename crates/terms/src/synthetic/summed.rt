@@ -7,7 +7,7 @@ ghost use Rattle.std.specs.Options.{Cases};
 ghost use Rattle.terms.specs.Legs.{legFits};
 ghost use Rattle.terms.specs.Ranges.{complexPrice};
 ghost use Rattle.terms.specs.Strategies.{legsOf};
-ghost use Rattle.terms.specs.Synthetics.{Within, nought, plus, summed, worth};
+ghost use Rattle.terms.specs.Synthetics.{Within, plus, shown, valued, worth};
 use super::Synthetic;
 use crate::leg::Leg;
 use crate::price::Price;
@@ -60,7 +60,7 @@ fn plus(sum: Synthetic, before: usize, leg: &Leg, top: &Top) -> Synthetic
 impl Strategy {
     // The sum of the legs, each priced by its own top; none if a top is absent.
     pub fn synthetic(&self, tops: &[Option<Top>]) -> Option<Synthetic>
-        ensures value { λ r. ⌜ r ≡ summed nought (legsOf (now (self .entry))) (now (tops .entry)) ⌝ }
+        ensures value { λ r. ⌜ r ≡ valued (legsOf (now (self .entry))) (shown (legsOf (now (self .entry))) (now (tops .entry))) ⌝ }
         ensures range { λ r. ⌜ Cases r (Unit {0}) (λ s. complexPrice (s .price) ≡ true) ⌝ }
     {
         let legs = self.legs();
