@@ -97,7 +97,7 @@ pub fn contracts_resting(orders: &Table<Order, 64>, strategy: u32, side: Side) -
 }
 
 // The strategy of this number, from 1, among those listed.
-pub fn strategy_at(listed: &Table<Strategy, 8>, number: u32) -> Option<Strategy>
+pub(crate) fn strategy_at(listed: &Table<Strategy, 8>, number: u32) -> Option<Strategy>
     ensures { λ r. ⌜ mapped legsOf r ≡ strategyAt (map legsOf (entries (now (listed .entry)))) number ⌝ }
 {
     let listed = listed.entries();

@@ -1,0 +1,4 @@
+pub mod Fields
+pub mod Placement
+pub mod Shifts
+pub mod Drawing

@@ -1,0 +1,5 @@
+pub mod Writing
+pub mod Ranging
+pub mod Firsts
+pub mod Prorating
+pub mod Dealing

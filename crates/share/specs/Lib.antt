@@ -1,0 +1,4 @@
+pub mod Awards
+pub mod Requests
+pub mod Filling
+pub mod Proration
