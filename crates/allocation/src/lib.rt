@@ -1,1 +1,2 @@
 // Who gets what in one settlement: definitions and what is shown of them. The code is in `settlement`.
+#![tactic(auto)]

@@ -1,6 +1,6 @@
 -- Prices as a buyer sees them. Every rule is written for a buying Agency Order; for a selling one
 -- each complex price is negated, and negated again it is the true one.
-use Rattle.std.specs.Prelude.{Bool, ℤ, negsuc, neg_ℤ, Option}
+use Rattle.std.specs.Prelude.{ℤ, negsuc, neg_ℤ, Option}
 use Rattle.std.specs.Option.{option_map}
 use Rattle.terms.specs.declared.side.Side.{Side}
 use Rattle.terms.specs.declared.side.Side.TheVariants.{Buy, Sell}

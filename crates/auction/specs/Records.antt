@@ -1,5 +1,5 @@
 -- An auction's record, as a buyer sees it.
-use Rattle.std.specs.Prelude.{ℕ, Bool, true, false, cond, ◌&&◌, ℤ, Some, None, Option, int_le}
+use Rattle.std.specs.Prelude.{Bool, true, false, cond, ◌&&◌, ℤ, Some, None, Option, int_le}
 use Rattle.std.specs.Int.{int_max}
 use Rattle.std.specs.Option.{option_map}
 use Rattle.terms.specs.declared.auction.AuctionRow.{AuctionRow}

@@ -1,5 +1,5 @@
 -- Small auctions, and what an Initiating Order is guaranteed.
-use Rattle.std.specs.Prelude.{ℕ, ◌*◌, ◌/◌, min, max, Bool, true, false, cond, List, [], ◌∷◌, ◌==◌, nat_lt}
+use Rattle.std.specs.Prelude.{ℕ, ◌*◌, ◌/◌, min, max, Bool, cond, List, [], ◌∷◌, ◌==◌, nat_lt}
 use Rattle.terms.specs.declared.leg.Leg.{Leg}
 
 -- the smallest ratio of the legs; one not above 8, for a ratio never is

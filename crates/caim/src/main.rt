@@ -1,5 +1,7 @@
 // Conducts one sitting from a text and prints what every call answered: `caim FILE`, or `caim`
 // with the text on standard input.
+#![tactic(auto)]
+
 ghost use Rattle.std.specs.Prelude.{◌<◌};
 
 use anyhow::anyhow;

@@ -1,4 +1,6 @@
 // Worked cases of the markets and of the session's first calls.
+#![tactic(auto)]
+
 #[cfg(test)]
 mod markets;
 #[cfg(test)]

@@ -1,5 +1,5 @@
 -- What a price band means, over any market.
-use Rattle.std.specs.Prelude.{ℕ, zero, suc, ◌+◌, ◌-◌, Bool, true, false, cond, ◌||◌, Some, None, Option, nat_lt}
+use Rattle.std.specs.Prelude.{ℕ, zero, suc, ◌+◌, ◌-◌, Bool, false, cond, ◌||◌, Some, None, Option, nat_lt}
 use Rattle.std.specs.Option.{option_map}
 use Rattle.terms.specs.declared.price.Price.{Price}
 use Rattle.terms.specs.declared.side.Side.{Side}

@@ -1,4 +1,6 @@
 // Markets: what one means to a session, and the markets that are sold with it.
+#![tactic(auto)]
+
 pub mod band;
 pub mod board;
 pub mod book;

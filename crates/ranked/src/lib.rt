@@ -1,4 +1,6 @@
 // Ranked records: one ordered list for all of them, the statement of fills, and drawing from the front.
+#![tactic(auto)]
+
 pub mod contra;
 pub mod drawn;
 pub mod fill;

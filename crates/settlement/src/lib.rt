@@ -1,4 +1,6 @@
 // One settlement: from contra items to fills.
+#![tactic(auto)]
+
 pub mod counts;
 mod deal;
 mod fill;

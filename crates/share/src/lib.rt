@@ -1,4 +1,6 @@
 // Share rules: how a quantity is shared among sizes in rank order.
+#![tactic(auto)]
+
 pub mod first_come;
 pub mod pro_rata;
 mod range;

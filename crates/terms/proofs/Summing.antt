@@ -1,5 +1,5 @@
 -- A strategy's sum: its bounds, and the steps of the loop that works it out.
-use Rattle.std.proofs.Common.{◌≡◌, ℕ, ◌+◌, ◌*◌, ◌<◌, ◌≤◌, Bool, true, false, not, ◌&&◌, ◌||◌, List, [], ◌∷◌, length, get_or, drop, ℤ, ◌+ℤ◌, Some, None, Option, sym, refl, ap, ◌∙◌, mul-le-mul, arith}
+use Rattle.std.proofs.Common.{◌≡◌, ℕ, ◌+◌, ◌*◌, ◌<◌, ◌≤◌, Bool, true, not, ◌&&◌, ◌||◌, List, [], ◌∷◌, length, get_or, drop, ℤ, ◌+ℤ◌, Some, None, Option, sym, refl, ap, ◌∙◌, mul-le-mul, arith}
 use mathlib.Core.Bool.{or_assoc, or-false}
 use Rattle.std.proofs.lemmas.List.{drop_more, drop_all, at_drop_more}
 use Rattle.std.proofs.lemmas.Int.{ints}

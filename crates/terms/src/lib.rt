@@ -1,4 +1,6 @@
 // The vocabulary of a session: quantities with their ranges, sides, legs, strategies, tops and refusals.
+#![tactic(auto)]
+
 pub mod answer;
 pub mod auction;
 pub mod leg;

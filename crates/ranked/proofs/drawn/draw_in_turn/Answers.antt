@@ -9,8 +9,8 @@ loop-item-preserved g c =
     let i = c.loop-item.invariant in
     let h : c.loop-item.item-index < length c.loop-item.records = omega arith in
     let k = c.loop-item-test.true in
-    let t = c.draw-one-left.ensures.value in
-    let a = c.draw-one-left.ensures.after in
+    let t = c.draw_one-left.ensures.value in
+    let a = c.draw_one-left.ensures.after in
     (front_more n d _ _ _ _ _ i.0 i.1 i.2 _ _ _ h k t a, same_more n d _ _ _ _ _ i.0 i.1 i.2 _ _ _ h k t a, due_more n d _ _ _ _ _ i.0 i.1 i.2 _ _ _ h k t a)
 
 pub returns : goal.returns

@@ -3,6 +3,6 @@ use Rattle.share.proofs.pro_rata.ProRataShareRule.share.Goals as goal
 
 pub prorate-requires : goal.prorate-requires
 prorate-requires c = record {
-  few = total_few _ _ c.in-ok-check-request.ensures.taken.0;
-  room = c.in-ok-check-request.ensures.taken.1;
+  few = total_few _ _ c.in_ok-check_request.ensures.taken.0;
+  room = c.in_ok-check_request.ensures.taken.1;
 }

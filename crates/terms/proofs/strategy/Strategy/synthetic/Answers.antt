@@ -1,4 +1,4 @@
-use Rattle.std.proofs.Common.{◌≡◌, sym, ap, ◌∙◌, arith}
+use Rattle.std.proofs.Common.{ap, ◌∙◌, arith}
 use Rattle.terms.proofs.Summing.{short_tops, absent_top, on_top, sum_end, fit_here, fit_later, within_range, summed_valued}
 use Rattle.terms.specs.declared.side.Side.TheVariants.{Buy}
 use Rattle.terms.specs.Strategies.{legs_of}
@@ -11,9 +11,9 @@ returns-then-i-tops c = record {
   range = tt;
 }
 
-pub returns-in-default : goal.returns-in-default
-returns-in-default c = record {
-  value = absent_top _ _ _ _ c.loop-i.invariant.0 _ c.loop-i-test.true c.if-i-tops.false c.index-tops-i.is c.in-default.is ∙ (ap (λ ls. summed nought ls c.args.tops.now) c.legs-legs.ensures.value ∙ summed_valued (legs_of c.args.self.now) c.args.tops.now);
+pub returns-in_default : goal.returns-in_default
+returns-in_default c = record {
+  value = absent_top _ _ _ _ c.loop-i.invariant.0 _ c.loop-i-test.true c.if-i-tops.false c.index-tops-i.is c.in_default.is ∙ (ap (λ ls. summed nought ls c.args.tops.now) c.legs-legs.ensures.value ∙ summed_valued (legs_of c.args.self.now) c.args.tops.now);
   range = tt;
 }
 

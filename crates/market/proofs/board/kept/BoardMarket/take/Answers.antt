@@ -7,7 +7,7 @@ returns-in-Set c = record {
   answer = search rules;
   after = search rules;
   kept = tt;
-  shows = set_shows _ _ _ _ _ _ c.heard-top.ensures c.set.ensures.value (sym c.in-default.ensures) c.set.ensures.full _ _ c.in-Set.is;
+  shows = set_shows _ _ _ _ _ _ c.heard-top.ensures c.set.ensures.value (sym c.in_default.ensures) c.set.ensures.full _ _ c.in-Set.is;
 }
 
 pub returns-in-Clear : goal.returns-in-Clear
@@ -15,5 +15,5 @@ returns-in-Clear c = record {
   answer = search rules;
   after = search rules;
   kept = tt;
-  shows = clear_shows _ _ _ _ _ _ c.heard-top.ensures c.set-in-Clear.ensures.value (sym c.in-default.ensures) c.set-in-Clear.ensures.full c.in-Clear.is;
+  shows = clear_shows _ _ _ _ _ _ c.heard-top.ensures c.set-in-Clear.ensures.value (sym c.in_default.ensures) c.set-in-Clear.ensures.full c.in-Clear.is;
 }

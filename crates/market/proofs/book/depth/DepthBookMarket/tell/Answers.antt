@@ -6,5 +6,5 @@ use Rattle.market.proofs.book.depth.DepthBookMarket.tell.Goals as goal
 
 pub returns : goal.returns
 returns c =
-    let e = c.top-among.ensures ∙ ap (λ os. book_top os c.args.component c.args.side) c.entries.ensures.value in
+    let e = c.top_among.ensures ∙ ap (λ os. book_top os c.args.component c.args.side) c.entries.ensures.value in
     record { value = e; same = refl; best = shows_best (entries c.args.self.now.orders) c.args.component c.args.side _ e }
