@@ -1,5 +1,5 @@
 -- Items of one kind: of one level, or of one user. The first of each kind stands for it.
-use Rattle.std.specs.Prelude.{ℕ, Bool, true, false, cond, ◌&&◌, ◌||◌, List, [], ◌∷◌, ◌++◌, ℤ, ◌==◌, int_le}
+use Rattle.std.specs.Prelude.{Bool, false, cond, ◌&&◌, ◌||◌, List, [], ◌∷◌, ◌++◌, ℤ, ◌==◌, int_le}
 use Rattle.ranked.specs.declared.contra.ContraItem.{ContraItem}
 
 abbrev pub same_price : ℤ → ℤ → Bool

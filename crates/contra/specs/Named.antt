@@ -1,6 +1,6 @@
 -- Which resting interest is an auction's contra interest, and the item that each makes, as a buyer
 -- sees it. Until items are counted, `counted` is the whole size.
-use Rattle.std.specs.Prelude.{ℕ, Bool, false, cond, not, ◌&&◌, List, ◌++◌, ℤ, None, Option, ◌==◌}
+use Rattle.std.specs.Prelude.{Bool, false, cond, not, ◌&&◌, List, ◌++◌, ℤ, None, Option, ◌==◌}
 use Rattle.std.specs.Option.{option_map, option_to_list}
 use Rattle.std.specs.List.{flat_map}
 use Rattle.terms.specs.declared.auction.AuctionRow.{AuctionRow}

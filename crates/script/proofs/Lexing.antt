@@ -1,5 +1,5 @@
 -- Steps of the loop that reads the words of a text.
-use Rattle.std.proofs.Common.{◌≡◌, ℕ, ◌+◌, List, [], ◌∷◌, ◌++◌, drop, Some, None, Ok, Err, Option, Result, sym, refl, ap, ◌∙◌, append_assoc, append-nil}
+use Rattle.std.proofs.Common.{◌≡◌, ℕ, List, [], ◌∷◌, ◌++◌, drop, Some, None, Ok, Err, Option, Result, sym, refl, ap, ◌∙◌, append_assoc, append-nil}
 use Rattle.script.specs.declared.lex.Span.{Span}
 use Rattle.script.specs.declared.word.Word.{Word}
 use Rattle.script.specs.Lexed.{part, read_at, read_by, spans}

@@ -1,5 +1,5 @@
 -- The abstract state of a session: what its calls depend on, and all that they may change.
-use Rattle.std.specs.Prelude.{◌≡◌, ℕ, Bool, true, false, List, [], replicate, None, Option}
+use Rattle.std.specs.Prelude.{◌≡◌, ℕ, false, List, [], replicate, None, Option}
 use Rattle.terms.specs.declared.auction.AuctionRow.{AuctionRow}
 use Rattle.terms.specs.declared.leg.Leg.{Leg}
 use Rattle.terms.specs.declared.order.Order.{Order}

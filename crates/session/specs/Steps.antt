@@ -13,7 +13,6 @@ use Rattle.terms.specs.Legs.{well_formed}
 use Rattle.terms.specs.Ranges as range
 use Rattle.terms.specs.Refusals.{Said, Told, answered, due, fault, nothing, refused, row}
 use Rattle.terms.specs.Synthetics.{synthetic_of}
-use Rattle.session.specs.declared.rows.Standing.{Standing}
 use Rattle.session.specs.declared.rows.Standing.TheVariants as standing
 use Rattle.session.specs.declared.state.Phase.{Phase}
 use Rattle.session.specs.declared.state.Phase.TheVariants.{Listing, Open, Closed}

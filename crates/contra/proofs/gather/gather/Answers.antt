@@ -1,4 +1,4 @@
-use Rattle.std.proofs.Common.{◌+◌, ◌≤◌, length, refl, ◌∙◌, arith}
+use Rattle.std.proofs.Common.{refl, ◌∙◌, arith}
 use Rattle.ranked.specs.Contras.{contra_before}
 use Rattle.contra.specs.Turns.{ItemTurns}
 use Rattle.contra.proofs.Gathering.{gather_all, gather_all_len, gather_len, gather_on, gather_room, gathered_none, made_all, made_turns}

@@ -1,4 +1,4 @@
-use Rattle.std.proofs.Common.{[], refl, arith, rules}
+use Rattle.std.proofs.Common.{[], refl}
 use Rattle.ranked.specs.Contras.{contra_before}
 use Rattle.contra.proofs.Gathering.{put_none, put_none_len, put_some, put_some_len, put_some_size}
 use Rattle.contra.proofs.gather.put.Goals as goal

@@ -23,7 +23,7 @@ returns c =
     let a = c.args.auction.now.row in
     let fits = fits_made (order_item a) (response_item a) c.args.orders.now c.args.responses.now c.args.list.now c.requires in
     let count = rank_count contra_before _ _ _ _ _ _ _ _ _ _ new.len new.places one.after one.len two.after two.len c.len.ensures fits in
-    let back = c.list·1.given.1.1 (sym (two.owner ∙ (one.owner ∙ new.owner))) in
+    let back = c.list-1.given.1.1 (sym (two.owner ∙ (one.owner ∙ new.owner))) in
     record {
       value = count;
       few = omega (arith, count, few_made (order_item a) (response_item a) c.args.orders.now c.args.responses.now);

@@ -10,7 +10,7 @@ returns c =
     let r = c.entries-2.ensures.value in
     let s = c.size.ensures.value in
     let k = c.rank-count.ensures in
-    let after = items_after a _ _ _ _ _ _ _ _ _ o r s k.after k.value c.count-all.ensures in
+    let after = items_after a _ _ _ _ _ _ _ _ _ o r s k.after k.value c.count_all.ensures in
     record {
       answer = items_said a _ _ _ _ _ _ c.args.list.now _ _ o r s k.after k.value _ c.if-list-lt128.false;
       after = after;

@@ -10,5 +10,5 @@ returns-in-NotAdmitted c = same_text c.format-in-NotAdmitted.result _ _ (refused
 pub returns-in-Stop : goal.returns-in-Stop
 returns-in-Stop c = same_text c.format-in-Stop.result _ _ (refused_stop _ _ c.number-number.ensures _ _ c.in-Stop.is c.number-clause.ensures) c.format-in-Stop.ensures.ok
 
-pub returns-in-default : goal.returns-in-default
-returns-in-default c = same_text c.format-in-default.result _ _ (refused_alone _ _ c.number-number.ensures c.in-default.not-Due c.in-default.not-NotAdmitted c.in-default.not-Stop) c.format-in-default.ensures.ok
+pub returns-in_default : goal.returns-in_default
+returns-in_default c = same_text c.format-in_default.result _ _ (refused_alone _ _ c.number-number.ensures c.in_default.not-Due c.in_default.not-NotAdmitted c.in_default.not-Stop) c.format-in_default.ensures.ok

@@ -3,6 +3,6 @@ use Rattle.script.proofs.keyword.keyword_of.Goals as goal
 
 pub returns : goal.returns
 returns c = record {
-  value = looked_up _ _ _ c.all-keywords.ensures c.spelled-among.ensures;
+  value = looked_up _ _ _ c.all_keywords.ensures c.spelled_among.ensures;
   inverse = found;
 }

@@ -2,4 +2,4 @@ use Rattle.script.proofs.Writing.{read_back}
 use Rattle.script.proofs.word.word_of.Goals as goal
 
 pub returns : goal.returns
-returns c = record { value = c.spelled-word.ensures; inverse = read_back c.spelled-word.result c.args.bytes.now c.spelled-word.ensures }
+returns c = record { value = c.spelled_word.ensures; inverse = read_back c.spelled_word.result c.args.bytes.now c.spelled_word.ensures }

@@ -8,7 +8,7 @@ pub loop-row-preserved : goal.loop-row-preserved
 loop-row-preserved c =
     let h : c.loop-row.row-index < length c.args.rows.now = omega arith in (
       sum_on (λ (o : Option AuctionRow). cond (counted c.args.which o) 1 0) _ _ _ c.loop-row.invariant.0 _ _ h
-          (c.one-if-n.ensures.value ∙ ap (λ b. cond b 1 0) c.counts.ensures),
+          (c.one_if-n.ensures.value ∙ ap (λ b. cond b 1 0) c.counts.ensures),
       omega arith,
       c.loop-row.invariant.2,
     )

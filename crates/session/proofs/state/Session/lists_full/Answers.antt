@@ -2,4 +2,4 @@ use Rattle.session.proofs.Listings.{full_length}
 use Rattle.session.proofs.state.Session.lists_full.Goals as goal
 
 pub returns : goal.returns
-returns g c = full_length _ _ c.is-full.ensures
+returns g c = full_length _ _ c.is_full.ensures
