@@ -1,5 +1,5 @@
 -- What a settlement writes, in true prices.
-use Rattle.std.proofs.Common.{◌≡◌, ℕ, ◌+◌, ◌*◌, ◌<◌, ◌≤◌, Bool, true, false, cond, not, ◌&&◌, eqb, List, [], ◌∷◌, map, length, ℤ, pos, sum_by, filter, sym, refl, ap, ◌∙◌, subst, arith, w32, SFits}
+use Rattle.std.proofs.Common.{◌≡◌, ℕ, ◌+◌, ◌<◌, ◌≤◌, Bool, true, false, cond, not, ◌&&◌, eqb, List, [], ◌∷◌, map, length, ℤ, sum_by, filter, sym, refl, ap, ◌∙◌, subst, arith, w32, SFits}
 use Rattle.std.proofs.ByRecursion.{All-weaker}
 use Rattle.std.proofs.lemmas.List.{length-map}
 use Rattle.std.proofs.lemmas.List.Sums.{sum_by-cons}
@@ -16,21 +16,20 @@ use Rattle.auction.specs.Orientation.{as_buyer}
 use Rattle.auction.specs.Records.{sound}
 use Rattle.contra.proofs.Counted.{grouped}
 use Rattle.contra.specs.Counting.{brings, contra_of, ranked_of}
-use Rattle.contra.specs.Kinds.{same_level, same_user}
+use Rattle.contra.specs.Kinds.{same_user}
 use Rattle.contra.specs.Laws.{Contra}
 use Rattle.contra.specs.Turns.{ItemTurns, PriceTurns}
 use Rattle.allocation.proofs.Few.{few}
-use Rattle.allocation.proofs.Filling.{fills_sum, level_sum, on_item}
+use Rattle.allocation.proofs.Filling.{fills_sum}
 use Rattle.allocation.proofs.Holding.{all_priced}
 use Rattle.allocation.proofs.Settling.{settled_auction}
 use Rattle.allocation.proofs.Sums.{total_kept, total_like, total_step}
-use Rattle.allocation.proofs.Testing.{gain}
 use Rattle.allocation.specs.Deals.{deal_of}
 use Rattle.allocation.specs.Fillings.{fills_of}
 use Rattle.allocation.specs.Laws.{Settled, Shares, filled_for, size_of}
 use Rattle.allocation.specs.Levels.{Level, at_level, items_at, levels_of}
 use Rattle.allocation.specs.Outcomes.{Outcome, auction_fills, given_for, received_for, shown_fills, shown_items}
-use Rattle.allocation.specs.Parts.{counts, group_of, group_size, is_other, others_in, total}
+use Rattle.allocation.specs.Parts.{counts, group_size, is_other, others_in, total}
 use Rattle.allocation.specs.Shown.{shown_fill, shown_item}
 
 -- negated twice, prices are what they were

@@ -1,6 +1,6 @@
 -- The fills of a settlement: at each level one for each item that is given contracts, in the order
 -- filled, and then one for the Initiating Order. None has size 0.
-use Rattle.std.specs.Prelude.{ℕ, Bool, cond, List, [], ◌∷◌, ◌++◌, ℤ, nat_lt}
+use Rattle.std.specs.Prelude.{ℕ, cond, List, [], ◌∷◌, ◌++◌, ℤ, nat_lt}
 use Rattle.std.specs.List.{flat_map}
 use Rattle.ranked.specs.declared.contra.ContraItem.{ContraItem}
 use Rattle.ranked.specs.declared.fill.Fill.{Fill}

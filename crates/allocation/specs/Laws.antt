@@ -10,7 +10,7 @@ use Rattle.share.specs.Awards.{Within}
 use Rattle.share.specs.Awards as share
 use Rattle.allocation.specs.Deals.{Deal}
 use Rattle.allocation.specs.Levels.{items_at}
-use Rattle.allocation.specs.Parts.{counts, customers_in, group_of, leaders_in, others_in, total}
+use Rattle.allocation.specs.Parts.{counts, customers_in, leaders_in, others_in, total}
 
 abbrev pub size_of : Fill → ℕ
 size_of f = f.size
@@ -38,8 +38,8 @@ abbrev pub counted_at : ℤ → List ContraItem → ℕ
 counted_at price items = total counts (items_at price items)
 
 -- contracts of the Initiating Order at a price
-abbrev pub field_own : ℤ → List Fill → ℕ
-field_own price fills = filled (λ f. (f.number == 0) && same_price price f.price) fills
+abbrev pub own_at : ℤ → List Fill → ℕ
+own_at price fills = filled (λ f. (f.number == 0) && same_price price f.price) fills
 
 -- what remains of the Agency Order at the stop, before and after customers there
 abbrev pub left_at_stop : Deal → List Fill → ℕ
@@ -81,7 +81,7 @@ pub record Settled (d : Deal) (items : List ContraItem) (fills : List Fill) : Ty
   -- no item gets more than its counted contracts
   pub within : (n : ℕ) → 0 < n → filled_for n fills ≤ counted_for n items
   -- the Initiating Order holds at most its guarantee at the stop, or every item got all
-  pub fair : (field_own d.stop fills ≤ guaranteed d items fills) ⊎ ((n : ℕ) → 0 < n → filled_for n fills ≡ counted_for n items)
+  pub fair : (own_at d.stop fills ≤ guaranteed d items fills) ⊎ ((n : ℕ) → 0 < n → filled_for n fills ≡ counted_for n items)
   -- contracts trade at a price only when every better level is exhausted
   pub better : (price : ℤ) → Beyond price fills → sold_at price fills ≡ counted_at price items
   -- one fill for each item and each level, and one for the stop

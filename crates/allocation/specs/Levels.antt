@@ -1,5 +1,5 @@
 -- The levels of a settlement, from the lowest to the stop, while contracts remain.
-use Rattle.std.specs.Prelude.{ℕ, ◌+◌, ◌-◌, min, Bool, cond, List, [], ◌∷◌, ◌++◌, length, ℤ, filter, int_lt, nat_lt}
+use Rattle.std.specs.Prelude.{ℕ, ◌+◌, ◌-◌, min, Bool, cond, List, [], ◌∷◌, length, ℤ, filter, int_lt, nat_lt}
 use Rattle.ranked.specs.declared.contra.ContraItem.{ContraItem}
 use Rattle.auction.specs.Sizes.{guarantee_of}
 use Rattle.contra.specs.Kinds.{firsts, same_level, same_price}

@@ -1,5 +1,5 @@
 -- What a settlement writes, in true prices, and what holds of it.
-use Rattle.std.specs.Prelude.{◌≡◌, ℕ, ◌+◌, ◌<◌, ◌≤◌, cond, List, map, length, ◌==◌}
+use Rattle.std.specs.Prelude.{◌≡◌, ℕ, ◌<◌, ◌≤◌, cond, List, map, length, ◌==◌}
 use Rattle.std.specs.List.{AllByRecursion as All}
 use Rattle.terms.specs.declared.auction.AuctionRow.{AuctionRow}
 use Rattle.terms.specs.declared.order.Order.{Order}

@@ -1,5 +1,4 @@
 -- Items and fills in true prices, and back as a buyer sees them: the same negation, for a seller.
-use Rattle.std.specs.Prelude.{ℤ}
 use Rattle.terms.specs.declared.side.Side.{Side}
 use Rattle.ranked.specs.declared.contra.ContraItem.{ContraItem}
 use Rattle.ranked.specs.declared.fill.Fill.{Fill}

@@ -1,5 +1,5 @@
 -- A reading as the answer to a statement.
-use Rattle.std.proofs.Common.{◌≡◌, ℕ, Some, Option, sym, refl, ap, ◌∙◌, subst}
+use Rattle.std.proofs.Common.{◌≡◌, ℕ, Some, Option, sym, ap, ◌∙◌, subst}
 use Rattle.terms.specs.declared.answer.Reading.{Reading}
 use Rattle.terms.specs.declared.side.Side.{Side}
 use Rattle.terms.specs.declared.top.Top.{Top}

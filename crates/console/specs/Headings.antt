@@ -1,5 +1,5 @@
 -- What a heading of a text sets, and when it is refused.
-use Rattle.std.specs.Prelude.{◌≡◌, ℕ, cond, is_some, Some, None, Option}
+use Rattle.std.specs.Prelude.{◌≡◌, ℕ, cond, is_some, Some, None}
 use Rattle.terms.specs.Refusals.{Said, Told, answered, refused, told}
 use Rattle.market.specs.declared.band.Width.{Width}
 use Rattle.market.specs.declared.fault.Fault.{Fault}

@@ -4,7 +4,7 @@ use Rattle.terms.specs.declared.answer.Placing.{Placing}
 use Rattle.terms.specs.declared.answer.Reading.{Reading}
 use Rattle.terms.specs.declared.side.Side.{Side}
 use Rattle.terms.specs.declared.top.Top.{Top}
-use Rattle.terms.specs.Refusals.{Said, Told, answered, refused, told}
+use Rattle.terms.specs.Refusals.{Said, answered, refused, told}
 use Rattle.market.specs.declared.fault.Fault.{Fault}
 use Rattle.session.specs.States.{State}
 use Rattle.session.specs.Steps.{Done, list_step, notice_step, open_step, read_step}
