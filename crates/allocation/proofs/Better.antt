@@ -3,7 +3,7 @@ use Rattle.std.proofs.Common.{◌≡◌, ℕ, ◌+◌, ◌-◌, ◌<◌, Bool, t
 use Rattle.std.proofs.ByRecursion.{All-weaker, kept_by_passes}
 use Rattle.std.proofs.lemmas.Int.{by_lt_z, ints}
 use Rattle.std.proofs.lemmas.Bool.{both_ways, ne_eqb}
-use Rattle.std.specs.List.{flat_map, AllByRecursion as All}
+use Rattle.std.specs.List.{flat_map, AllByRecursion}
 use Rattle.ranked.specs.declared.contra.ContraItem.{ContraItem}
 use Rattle.contra.specs.Kinds.{same_price, some}
 use Rattle.allocation.specs.Deals.{Deal}
@@ -50,17 +50,17 @@ module _ (awards : List ℕ → ℕ → List ℕ) (s : Shares awards) (d : Deal)
   nothing : (p : ℤ) → price <ℤ p → count p ≡ 0
   nothing p h = worth_none (on_item t) _ (All-weaker _ _ (λ x e. no_match price p x.level _ h e) _ (kept_by_passes (at_level p) items))
 
-  nothing_on : (bs : List ContraItem) → All (λ b. price <ℤ b.level) bs → total (λ b. count b.level) bs ≡ 0
+  nothing_on : (bs : List ContraItem) → AllByRecursion (λ b. price <ℤ b.level) bs → total (λ b. count b.level) bs ≡ 0
   unfolding total
   nothing_on [] a = refl
   nothing_on (b ∷ bs) a = omega (arith, nothing b.level a.0, nothing_on bs a.1)
 
   -- where levels lie above the price, nothing trades there
-  all_above : (bs : List ContraItem) (left : ℕ) → All (λ b. price <ℤ b.level) bs → price <ℤ d.stop → sold bs left ≡ total (λ b. count b.level) bs + count d.stop
+  all_above : (bs : List ContraItem) (left : ℕ) → AllByRecursion (λ b. price <ℤ b.level) bs → price <ℤ d.stop → sold bs left ≡ total (λ b. count b.level) bs + count d.stop
   all_above bs left a h = omega (arith, levels_within awards d items t none bs left, nothing_on bs a, nothing d.stop h)
 
   -- where fills lie above the price, the levels at the price give all that counts
-  exhausted : (bs : List ContraItem) (left : ℕ) → Climbs bs → All (λ b. b.level <ℤ d.stop) bs → some (above price) (fills_from awards d items price bs left) ≡ true → sold bs left ≡ total (λ b. count b.level) bs + count d.stop
+  exhausted : (bs : List ContraItem) (left : ℕ) → Climbs bs → AllByRecursion (λ b. b.level <ℤ d.stop) bs → some (above price) (fills_from awards d items price bs left) ≡ true → sold bs left ≡ total (λ b. count b.level) bs + count d.stop
   unfolding some
   exhausted [] left c a e =
       by_lt_z price d.stop (λ h. all_above [] left tt h)
@@ -77,7 +77,7 @@ module _ (awards : List ℕ → ℕ → List ℕ) (s : Shares awards) (d : Deal)
       omega
       (arith, ap (total (level_sum t)) more, total_step (level_sum t) (below_at awards d items b left) (levels_from awards d items bs rest), below_full awards s d items t none b left (some_left awards d items price bs rest f), exhausted bs rest c.1 a.1 f, total_step (λ b. count b.level) b bs))
 
-  pub better : All (λ x. 0 < x.number) items → All (λ x. x.level ≤ℤ d.stop) items → Rising items → Beyond price (fills_of awards d items) → sold_at price (fills_of awards d items) ≡ counted_at price items
+  pub better : AllByRecursion (λ x. 0 < x.number) items → AllByRecursion (λ x. x.level ≤ℤ d.stop) items → Rising items → Beyond price (fills_of awards d items) → sold_at price (fills_of awards d items) ≡ counted_at price items
   better numbers under rising beyond =
       omega
       (arith, fills_sum t d (levels_of awards d items), exhausted (beginnings d [] items) d.size (beginnings_climb d items rising) (beginnings_below d items) (some_beyond awards d items price (fills_of awards d items) beyond), levels_whole d items (worth (on_item t)) under, total_kept counts (at_level price) items, total_same (worth (on_item t)) (λ x. cond (at_level price x) x.counted 0) items (All-weaker _ _ (λ x h. numbered x.number x.counted (same_price price x.level) h) items numbers))

@@ -3,7 +3,7 @@ use Rattle.std.proofs.Common.{◌≡◌, Bool, false, List, [], ◌∷◌, ◌++
 use Rattle.std.proofs.ByRecursion.{all_kept_by, All-weaker, kept_by_passes}
 use Rattle.std.proofs.lemmas.Int.{ints}
 use Rattle.std.proofs.lemmas.Bool.{cond_both}
-use Rattle.std.specs.List.{AllByRecursion as All}
+use Rattle.std.specs.List.{AllByRecursion}
 use Rattle.ranked.specs.declared.contra.ContraItem.{ContraItem}
 use Rattle.contra.specs.Kinds.{firsts, same_level, same_price, some}
 use Rattle.contra.proofs.Alike.{all_both, firsts_all, firsts_behind}
@@ -14,7 +14,7 @@ use Rattle.allocation.specs.Levels.{beginnings, below_stop}
 -- each level is below all behind it
 abbrev pub Climbs : List ContraItem → Type 0
 Climbs [] = Unit {0}
-Climbs (x ∷ xs) = All (λ y. x.level <ℤ y.level) xs × Climbs xs
+Climbs (x ∷ xs) = AllByRecursion (λ y. x.level <ℤ y.level) xs × Climbs xs
 
 apart_less : (a b : ℤ) → a ≤ℤ b → same_price b a ≡ false → a <ℤ b
 apart_less a b h e = grind (arith, ints)
@@ -36,5 +36,5 @@ module _ (d : Deal) (items : List ContraItem) where
   pub beginnings_climb : Rising items → Climbs (beginnings d [] items)
   beginnings_climb r = kept_climb (below_stop d) _ (firsts_climb items [] r)
 
-  pub beginnings_below : All (λ b. b.level <ℤ d.stop) (beginnings d [] items)
+  pub beginnings_below : AllByRecursion (λ b. b.level <ℤ d.stop) (beginnings d [] items)
   beginnings_below = All-weaker _ _ (λ b e. grind (arith, ints)) _ (kept_by_passes (below_stop d) (firsts same_level [] items))

@@ -1,7 +1,7 @@
 -- The Initiating Order holds at most its guarantee at the stop, or every item got all.
 use Rattle.std.proofs.Common.{◌≡◌, ℕ, ◌-◌, ◌<◌, ◌≤◌, Bool, eqb, ◌⊎◌, List, [], length, ℤ, ◌≤ℤ◌, ap, ◌∙◌, inl, inr, arith}
 use Rattle.std.proofs.lemmas.Bool.{cases_lt, ne_eqb}
-use Rattle.std.specs.List.{AllByRecursion as All}
+use Rattle.std.specs.List.{AllByRecursion}
 use Rattle.ranked.specs.declared.contra.ContraItem.{ContraItem}
 use Rattle.ranked.specs.declared.fill.Fill.{Fill}
 use Rattle.auction.specs.Sizes.{guarantee_of}
@@ -42,18 +42,18 @@ module _ (awards : List ℕ → ℕ → List ℕ) (s : Shares awards) (d : Deal)
   guaranteed_is : guaranteed d items fills ≡ guarantee_in d here left
   guaranteed_is = ap (λ n. guarantee_of d.last n (length (leaders_in (others_in here)))) left_is
 
-  own_is : All (λ x. 0 < x.number) items → own_at d.stop fills ≡ left - total given_in (stop_parts awards d here left)
+  own_is : AllByRecursion (λ x. 0 < x.number) items → own_at d.stop fills ≡ left - total given_in (stop_parts awards d here left)
   own_is numbers =
       fills_sum (own_stop d) d (levels_of awards d items) ∙ own_sum awards d items numbers bs d.size (beginnings_below d items)
 
   -- where the stop is reached and gives all, every number got all
-  all_filled : All (λ x. x.level ≤ℤ d.stop) items → 0 < left → total given_in (stop_parts awards d here left) ≡ total counts here → (n : ℕ) → 0 < n → filled_for n fills ≡ counted_for n items
+  all_filled : AllByRecursion (λ x. x.level ≤ℤ d.stop) items → 0 < left → total given_in (stop_parts awards d here left) ≡ total counts here → (n : ℕ) → 0 < n → filled_for n fills ≡ counted_for n items
   all_filled under h e n k =
       let t : ℕ → ℤ → Bool = λ m _. eqb m n in
       omega
       (arith, fills_sum t d (levels_of awards d items), full_sum awards s d items t (λ _. ne_eqb 0 n (omega arith)) bs d.size h e, levels_whole d items (worth (on_item t)) under, total_kept counts (λ x. eqb x.number n) items)
 
-  pub fair : All (λ x. 0 < x.number) items → All (λ x. x.level ≤ℤ d.stop) items → (own_at d.stop fills ≤ guaranteed d items fills) ⊎ ((n : ℕ) → 0 < n → filled_for n fills ≡ counted_for n items)
+  pub fair : AllByRecursion (λ x. 0 < x.number) items → AllByRecursion (λ x. x.level ≤ℤ d.stop) items → (own_at d.stop fills ≤ guaranteed d items fills) ⊎ ((n : ℕ) → 0 < n → filled_for n fills ≡ counted_for n items)
   fair numbers under =
       let own = own_is numbers in
       let given = stop_given awards s d here left in

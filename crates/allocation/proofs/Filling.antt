@@ -3,7 +3,7 @@ use Rattle.std.proofs.Common.{◌≡◌, ℕ, ◌+◌, ◌-◌, ◌<◌, min, Bo
 use Rattle.std.proofs.ByRecursion.{All-append, all_kept_by, All-weaker}
 use Rattle.std.proofs.lemmas.Bool.{cond_both, ltb-true}
 use Rattle.std.proofs.lemmas.Bool.Decides.{nat_tests}
-use Rattle.std.specs.List.{flat_map, AllByRecursion as All}
+use Rattle.std.specs.List.{flat_map, AllByRecursion}
 use Rattle.ranked.specs.declared.contra.ContraItem.{ContraItem}
 use Rattle.ranked.specs.declared.fill.Fill.{Fill}
 use Rattle.contra.specs.Kinds.{same_level}
@@ -56,57 +56,57 @@ module _ (t : ℕ → ℤ → Bool) (d : Deal) where
 
 -- what holds of each fill of a level
 module _ (F : Fill → Type 0) (d : Deal) where
-  unless_all : (f : Fill) → (0 < f.size → F f) → All F (unless_empty f)
-  unless_all f h = cond_both (ltb 0 f.size) _ _ (All F) (λ e. (h (ltb-true 0 f.size e), tt)) (λ e. tt)
+  unless_all : (f : Fill) → (0 < f.size → F f) → AllByRecursion F (unless_empty f)
+  unless_all f h = cond_both (ltb 0 f.size) _ _ (AllByRecursion F) (λ e. (h (ltb-true 0 f.size e), tt)) (λ e. tt)
 
-  parts_fills : (ps : List Part) → All (λ p. 0 < p.given → F (part_fill d p)) ps → All F (part_fills d ps)
+  parts_fills : (ps : List Part) → AllByRecursion (λ p. 0 < p.given → F (part_fill d p)) ps → AllByRecursion F (part_fills d ps)
   parts_fills [] a = tt
   parts_fills (p ∷ ps) a = All-append F _ _ (unless_all (part_fill d p) a.0) (parts_fills ps a.1)
 
-  pub level_all : (l : Level) → All (λ p. 0 < p.given → F (part_fill d p)) l.parts → (0 < l.own → F (own_fill d l.price l.own)) → All F (level_fills d l)
+  pub level_all : (l : Level) → AllByRecursion (λ p. 0 < p.given → F (part_fill d p)) l.parts → (0 < l.own → F (own_fill d l.price l.own)) → AllByRecursion F (level_fills d l)
   level_all l a h = All-append F _ _ (parts_fills l.parts a) (unless_all (own_fill d l.price l.own) h)
 
-  pub fills_all : (ls : List Level) → All (λ l. All F (level_fills d l)) ls → All F (flat_map (level_fills d) ls)
+  pub fills_all : (ls : List Level) → AllByRecursion (λ l. AllByRecursion F (level_fills d l)) ls → AllByRecursion F (flat_map (level_fills d) ls)
   fills_all [] a = tt
   fills_all (l ∷ ls) a = All-append F _ _ a.0 (fills_all ls a.1)
 
 -- what holds of each item holds of the item of each part
 module _ (Q : Part → Type 0) where
-  come_all : (xs : List ContraItem) (q : ℕ) → All (λ x. (n : ℕ) → Q (part_of x n)) xs → All Q (come xs q)
+  come_all : (xs : List ContraItem) (q : ℕ) → AllByRecursion (λ x. (n : ℕ) → Q (part_of x n)) xs → AllByRecursion Q (come xs q)
   unfolding come
   come_all [] q a = tt
   come_all (x ∷ xs) q a = (a.0 (min q x.counted), come_all xs (q - min q x.counted) a.1)
 
-  dealt_all : (others xs : List ContraItem) (ns : List ℕ) → All (λ x. (n : ℕ) → Q (part_of x n)) others → All Q (dealt others xs ns)
+  dealt_all : (others xs : List ContraItem) (ns : List ℕ) → AllByRecursion (λ x. (n : ℕ) → Q (part_of x n)) others → AllByRecursion Q (dealt others xs ns)
   unfolding dealt
   dealt_all others [] ns a = tt
   dealt_all others (x ∷ xs) [] a = All-append Q _ _ (come_all _ 0 (all_kept_by _ _ others a)) (dealt_all others xs [] a)
   dealt_all others (x ∷ xs) (n ∷ ns) a = All-append Q _ _ (come_all _ n (all_kept_by _ _ others a)) (dealt_all others xs ns a)
 
-  pub parts_all : (awards : List ℕ → ℕ → List ℕ) (here : List ContraItem) (q kept : ℕ) → All (λ x. (n : ℕ) → Q (part_of x n)) here → All Q (parts_in awards here q kept)
+  pub parts_all : (awards : List ℕ → ℕ → List ℕ) (here : List ContraItem) (q kept : ℕ) → AllByRecursion (λ x. (n : ℕ) → Q (part_of x n)) here → AllByRecursion Q (parts_in awards here q kept)
   parts_all awards here q kept a =
       All-append Q _ _ (come_all (customers_in here) q (all_kept_by is_customer _ here a)) (dealt_all (others_in here) _ _ (all_kept_by is_other _ here a))
 
 -- what holds of each level as it is worked
 module _ (awards : List ℕ → ℕ → List ℕ) (d : Deal) (items : List ContraItem) (L : Level → Type 0) (stop : (left : ℕ) → L (stop_at awards d items left)) where
-  pub levels_all : (bs : List ContraItem) (left : ℕ) → All (λ b. (n : ℕ) → L (below_at awards d items b n)) bs → All L (levels_from awards d items bs left)
+  pub levels_all : (bs : List ContraItem) (left : ℕ) → AllByRecursion (λ b. (n : ℕ) → L (below_at awards d items b n)) bs → AllByRecursion L (levels_from awards d items bs left)
   unfolding levels_from
-  levels_all [] left a = cond_both (ltb 0 left) _ _ (All L) (λ e. (stop left, tt)) (λ e. tt)
+  levels_all [] left a = cond_both (ltb 0 left) _ _ (AllByRecursion L) (λ e. (stop left, tt)) (λ e. tt)
   levels_all (b ∷ bs) left a =
-      cond_both (ltb 0 left) _ _ (All L)
+      cond_both (ltb 0 left) _ _ (AllByRecursion L)
       (λ e. (a.0 left, levels_all bs (left - spent_at (below_at awards d items b left)) a.1))
       (λ e. tt)
 
 -- what holds of each item, and of the stop, passes to all fills
 module _ (awards : List ℕ → ℕ → List ℕ) (d : Deal) (items : List ContraItem) (Q : ContraItem → Type 0) (F : Fill → Type 0) where
   module _ (part : (x : ContraItem) (n : ℕ) → 0 < n → Q x → F (part_fill d (part_of x n))) (own : (x : ContraItem) (n : ℕ) → 0 < n → Q x → F (own_fill d x.level n)) (last : (n : ℕ) → 0 < n → F (own_fill d d.stop n)) where
-    here_all : (here : List ContraItem) (q kept : ℕ) → All Q here → All (λ p. 0 < p.given → F (part_fill d p)) (parts_in awards here q kept)
+    here_all : (here : List ContraItem) (q kept : ℕ) → AllByRecursion Q here → AllByRecursion (λ p. 0 < p.given → F (part_fill d p)) (parts_in awards here q kept)
     here_all here q kept a = parts_all _ awards here q kept (All-weaker _ _ (λ x k n h. part x n h k) here a)
 
-    pub all_fills : All Q items → All F (fills_of awards d items)
+    pub all_fills : AllByRecursion Q items → AllByRecursion F (fills_of awards d items)
     all_fills a =
         fills_all F d (levels_of awards d items)
-        (levels_all awards d items (λ l. All F (level_fills d l))
+        (levels_all awards d items (λ l. AllByRecursion F (level_fills d l))
         (λ left. level_all F d (stop_at awards d items left) (here_all _ _ _ (all_kept_by (at_level d.stop) Q items a)) (λ h. last _ h))
         (beginnings d [] items) d.size
         (all_kept_by (below_stop d) _ _ (firsts_all same_level _ items []

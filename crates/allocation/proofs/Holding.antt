@@ -3,7 +3,7 @@ use Rattle.std.proofs.Common.{◌≡◌, ℕ, ◌+◌, ◌-◌, ◌<◌, ◌≤�
 use Rattle.std.proofs.ByRecursion.{all_has_itself}
 use Rattle.std.proofs.lemmas.Bool.{ne_eqb}
 use Rattle.std.proofs.lemmas.Bool.Decides.{nat_tests}
-use Rattle.std.specs.List.{ContainsAt as Has, AllByRecursion as All}
+use Rattle.std.specs.List.{ContainsAt, AllByRecursion}
 use Rattle.ranked.specs.declared.contra.ContraItem.{ContraItem}
 use Rattle.contra.proofs.Alike.{all_both}
 use Rattle.allocation.specs.Deals.{Deal}
@@ -29,23 +29,23 @@ module _ (awards : List ℕ → ℕ → List ℕ) (d : Deal) (items : List Contr
   pub whole : Shares awards → total size_of (fills_of awards d items) ≡ d.size
   whole s = fills_total (λ _ _. true) d (levels_of awards d items) ∙ levels_spent s (beginnings d [] items) d.size
 
-  pub none_empty : All (λ f. 0 < f.size) (fills_of awards d items)
-  none_empty = all_fills awards d items (Has items) _ (λ x n h k. h) (λ x n h k. h) (λ n h. h) (all_has_itself items)
+  pub none_empty : AllByRecursion (λ f. 0 < f.size) (fills_of awards d items)
+  none_empty = all_fills awards d items (ContainsAt items) _ (λ x n h k. h) (λ x n h k. h) (λ n h. h) (all_has_itself items)
 
-  pub all_named : All (λ f. f.id ≡ d.id) (fills_of awards d items)
-  all_named = all_fills awards d items (Has items) _ (λ x n h k. refl) (λ x n h k. refl) (λ n h. refl) (all_has_itself items)
+  pub all_named : AllByRecursion (λ f. f.id ≡ d.id) (fills_of awards d items)
+  all_named = all_fills awards d items (ContainsAt items) _ (λ x n h k. refl) (λ x n h k. refl) (λ n h. refl) (all_has_itself items)
 
   -- what holds of each level and of the stop holds of each price
-  pub all_priced : (P : ℤ → Type 0) → All (λ x. P x.level) items → P d.stop → All (λ f. P f.price) (fills_of awards d items)
+  pub all_priced : (P : ℤ → Type 0) → AllByRecursion (λ x. P x.level) items → P d.stop → AllByRecursion (λ f. P f.price) (fills_of awards d items)
   all_priced P a e = all_fills awards d items (λ x. P x.level) (λ f. P f.price) (λ x n h k. k) (λ x n h k. k) (λ n h. e) a
 
-  pub all_sold : All (λ x. x.price ≤ℤ x.level) items → All (Sold d items) (fills_of awards d items)
+  pub all_sold : AllByRecursion (λ x. x.price ≤ℤ x.level) items → AllByRecursion (Sold d items) (fills_of awards d items)
   all_sold a =
-      all_fills awards d items (λ x. Has items x × (x.price ≤ℤ x.level)) (Sold d items)
+      all_fills awards d items (λ x. ContainsAt items x × (x.price ≤ℤ x.level)) (Sold d items)
       (λ x n h k. inr (record { item = x; there = k.0; user = refl; number = refl; level = refl; asks = k.1 }))
       (λ x n h k. inl (refl, refl))
       (λ n h. inl (refl, refl))
-      (all_both (Has items) (λ x. x.price ≤ℤ x.level) _ (λ x u v. (u, v)) items (all_has_itself items) a)
+      (all_both (ContainsAt items) (λ x. x.price ≤ℤ x.level) _ (λ x u v. (u, v)) items (all_has_itself items) a)
 
   -- a test that no fill of the Initiating Order passes
   module _ (t : ℕ → ℤ → Bool) (none : (price : ℤ) → t 0 price ≡ false) where

@@ -5,7 +5,7 @@ use Rattle.std.proofs.ByRecursion.{All-append, All-weaker}
 use Rattle.std.proofs.lemmas.Int.{ints}
 use Rattle.std.proofs.lemmas.Bool.{and_parts, cond_both}
 use Rattle.std.specs.Option.{option_map, option_to_list}
-use Rattle.std.specs.List.{flat_map, AllByRecursion as All}
+use Rattle.std.specs.List.{flat_map, AllByRecursion}
 use Rattle.terms.specs.declared.auction.AuctionRow.{AuctionRow}
 use Rattle.terms.specs.declared.order.Order.{Order}
 use Rattle.terms.specs.declared.order.Response.{Response}
@@ -42,7 +42,7 @@ rises : (xs : List ContraItem) → InOrder contra_before xs → Rising xs
 rises [] o = tt
 rises (x ∷ xs) o = (All-weaker _ _ (λ y e. before_rises x.level y.level _ e) xs o.0, rises xs o.1)
 
-joined_all : {X A : Type 0} (P : A → Type 0) (Q : X → Type 0) (f : X → List A) → ((x : X) → Q x → All P (f x)) → (xs : List X) → All Q xs → All P (flat_map f xs)
+joined_all : {X A : Type 0} (P : A → Type 0) (Q : X → Type 0) (f : X → List A) → ((x : X) → Q x → AllByRecursion P (f x)) → (xs : List X) → AllByRecursion Q xs → AllByRecursion P (flat_map f xs)
 joined_all P Q f h [] a = tt
 joined_all P Q f h (x ∷ xs) a = All-append P _ _ (h x a.0) (joined_all P Q f h xs a.1)
 
@@ -58,24 +58,24 @@ module _ (a : AuctionRow) (fits : sound a ≡ true) where
     above : cap_fits (cap_at a) x.level ≡ true
     asks : x.price ≤ℤ x.level
 
-  entry_fits : (e : Entry) → 0 < e.number → All Fit (option_to_list (entry_item a e))
+  entry_fits : (e : Entry) → 0 < e.number → AllByRecursion Fit (option_to_list (entry_item a e))
   entry_fits e h =
       let price : ℤ = as_buyer a.side e.price in
       cond_both (le_z price (stop_of a)) (Some price) None
-      (λ o. All Fit (option_to_list (option_map (λ (p : ℤ). record { user = e.user; number = e.number; price = p; level = level_of a p; customer = e.customer; counted = e.size }) o)))
+      (λ o. AllByRecursion Fit (option_to_list (option_map (λ (p : ℤ). record { user = e.user; number = e.number; price = p; level = level_of a p; customer = e.customer; counted = e.size }) o)))
       (λ k. (record { number = h; under = level_under (cap_at a) price (stop_of a) cap_is_fit k; above = level_above (cap_at a) price; asks = level_asks (cap_at a) price }, tt))
       (λ k. tt)
 
-  order_fits : (o : Order) → 0 < o.number → All Fit (option_to_list (order_item a o))
-  order_fits o h = cond_both (against a o) _ _ (λ i. All Fit (option_to_list i)) (λ _. entry_fits _ h) (λ _. tt)
+  order_fits : (o : Order) → 0 < o.number → AllByRecursion Fit (option_to_list (order_item a o))
+  order_fits o h = cond_both (against a o) _ _ (λ i. AllByRecursion Fit (option_to_list i)) (λ _. entry_fits _ h) (λ _. tt)
 
-  response_fits : (r : Response) → 0 < r.number → All Fit (option_to_list (response_item a r))
-  response_fits r h = cond_both (answering a r) _ _ (λ i. All Fit (option_to_list i)) (λ _. entry_fits _ h) (λ _. tt)
+  response_fits : (r : Response) → 0 < r.number → AllByRecursion Fit (option_to_list (response_item a r))
+  response_fits r h = cond_both (answering a r) _ _ (λ i. AllByRecursion Fit (option_to_list i)) (λ _. entry_fits _ h) (λ _. tt)
 
   module _ (orders : List Order) (responses : List Response) where
-    pub lawful : All (λ o. 0 < o.number) orders → All (λ r. 0 < r.number) responses → Lawful (deal_of a) (contra_of a orders responses)
+    pub lawful : AllByRecursion (λ o. 0 < o.number) orders → AllByRecursion (λ r. 0 < r.number) responses → Lawful (deal_of a) (contra_of a orders responses)
     lawful os rs =
-        let all : All Fit (contra_of a orders responses) = contra_all a orders responses Fit
+        let all : AllByRecursion Fit (contra_of a orders responses) = contra_all a orders responses Fit
         (λ x n h. record { number = h.number; under = h.under; above = h.above; asks = h.asks })
         (All-append Fit _ _ (joined_all Fit _ _ order_fits orders os) (joined_all Fit _ _ response_fits responses rs)) in
         record {

@@ -4,7 +4,7 @@ use Rattle.std.proofs.ByRecursion.{All-weaker}
 use Rattle.std.proofs.lemmas.List.{length-map}
 use Rattle.std.proofs.lemmas.List.Sums.{sum_by-cons}
 use Rattle.std.proofs.lemmas.Bool.{ne_eqb}
-use Rattle.std.specs.List.{AllByRecursion as All}
+use Rattle.std.specs.List.{AllByRecursion}
 use Rattle.terms.specs.declared.auction.AuctionRow.{AuctionRow}
 use Rattle.terms.specs.declared.order.Order.{Order}
 use Rattle.terms.specs.declared.order.Response.{Response}
@@ -101,7 +101,7 @@ module _ (awards : List ℕ → ℕ → List ℕ) (shares : Shares awards) (a : 
   }
 
 -- every price of a fill is a level or the stop
-pub fills_turn : (awards : List ℕ → ℕ → List ℕ) (a : AuctionRow) (items : List ContraItem) → All (ItemTurns a.side) items → PriceTurns a.side (deal_of a).stop → All (λ (f : Fill). PriceTurns a.side f.price) (fills_of awards (deal_of a) items)
+pub fills_turn : (awards : List ℕ → ℕ → List ℕ) (a : AuctionRow) (items : List ContraItem) → AllByRecursion (ItemTurns a.side) items → PriceTurns a.side (deal_of a).stop → AllByRecursion (λ (f : Fill). PriceTurns a.side f.price) (fills_of awards (deal_of a) items)
 fills_turn awards a items turns stop =
     all_priced awards (deal_of a) items (PriceTurns a.side) (All-weaker _ _ (λ (x : ContraItem) (t : ItemTurns a.side x). t.1) items turns) stop
 

@@ -3,7 +3,7 @@ use Rattle.std.proofs.Common.{◌≡◌, ℕ, ◌+◌, ◌-◌, ◌<◌, Bool, f
 use Rattle.std.proofs.ByRecursion.{all_kept_by, All-weaker}
 use Rattle.std.proofs.lemmas.Int.{ints}
 use Rattle.std.proofs.lemmas.Bool.Decides.{nat_tests}
-use Rattle.std.specs.List.{AllByRecursion as All}
+use Rattle.std.specs.List.{AllByRecursion}
 use Rattle.ranked.specs.declared.contra.ContraItem.{ContraItem}
 use Rattle.contra.specs.Kinds.{same_price}
 use Rattle.contra.proofs.Alike.{price_itself}
@@ -25,7 +25,7 @@ not_same : (a b : ℤ) → a <ℤ b → same_price b a ≡ false
 not_same a b h = grind (arith, ints)
 
 module _ (awards : List ℕ → ℕ → List ℕ) (d : Deal) (items : List ContraItem) where
-  module _ (numbers : All (λ x. 0 < x.number) items) where
+  module _ (numbers : AllByRecursion (λ x. 0 < x.number) items) where
     no_own : (price : ℤ) → total (worth (on_item (own_stop d))) (items_at price items) ≡ 0
     no_own price = worth_none (on_item (own_stop d)) _ (All-weaker _ _ (λ x k. grind (arith, nat_tests)) _ (all_kept_by (at_level price) _ items numbers))
 
@@ -45,7 +45,7 @@ module _ (awards : List ℕ → ℕ → List ℕ) (d : Deal) (items : List Contr
         let g = price_itself d.stop in
         grind arith
 
-    pub own_sum : (bs : List ContraItem) (left : ℕ) → All (λ b. b.level <ℤ d.stop) bs → total (level_sum (own_stop d)) (levels_from awards d items bs left) ≡ reach awards d items bs left - total given_in (stop_parts awards d (items_at d.stop items) (reach awards d items bs left))
+    pub own_sum : (bs : List ContraItem) (left : ℕ) → AllByRecursion (λ b. b.level <ℤ d.stop) bs → total (level_sum (own_stop d)) (levels_from awards d items bs left) ≡ reach awards d items bs left - total given_in (stop_parts awards d (items_at d.stop items) (reach awards d items bs left))
     unfolding total levels_from reach
     own_sum [] left a = let e = stop_own left in grind (arith, nat_tests)
     own_sum (b ∷ bs) left a =

@@ -4,7 +4,7 @@ use lib.Signed.{lt_z}
 use Rattle.std.proofs.ByRecursion.{All-weaker, kept_by_passes}
 use Rattle.std.proofs.lemmas.Int.{ints}
 use Rattle.std.proofs.lemmas.Bool.Decides.{nat_tests}
-use Rattle.std.specs.List.{AllByRecursion as All}
+use Rattle.std.specs.List.{AllByRecursion}
 use Rattle.ranked.specs.declared.contra.ContraItem.{ContraItem}
 use Rattle.contra.specs.Kinds.{same_price}
 use Rattle.allocation.specs.Deals.{Deal}
@@ -64,7 +64,7 @@ module _ (awards : List ℕ → ℕ → List ℕ) (s : Shares awards) (d : Deal)
       let g = not_less d.stop in
       grind arith
 
-  pub under_sum : (bs : List ContraItem) (left : ℕ) → All (λ b. b.level <ℤ d.stop) bs → total (level_sum (under_stop d)) (levels_from awards d items bs left) + reach awards d items bs left ≡ left
+  pub under_sum : (bs : List ContraItem) (left : ℕ) → AllByRecursion (λ b. b.level <ℤ d.stop) bs → total (level_sum (under_stop d)) (levels_from awards d items bs left) + reach awards d items bs left ≡ left
   unfolding total levels_from reach
   under_sum [] left a = let e = stop_under left in grind (arith, nat_tests)
   under_sum (b ∷ bs) left a =

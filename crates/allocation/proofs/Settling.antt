@@ -1,7 +1,7 @@
 -- Every settlement keeps its laws.
 use Rattle.std.proofs.Common.{◌≡◌, ℕ, ◌<◌, true, List, ◌≤ℤ◌, arith}
 use Rattle.std.proofs.lemmas.Int.{ints}
-use Rattle.std.specs.List.{AllByRecursion as All}
+use Rattle.std.specs.List.{AllByRecursion}
 use Rattle.terms.specs.declared.auction.AuctionRow.{AuctionRow}
 use Rattle.terms.specs.declared.order.Order.{Order}
 use Rattle.terms.specs.declared.order.Response.{Response}
@@ -34,6 +34,6 @@ settled awards s d items l fits = record {
 }
 
 -- so does that of an auction with its orders and responses
-pub settled_auction : (awards : List ℕ → ℕ → List ℕ) → Shares awards → (a : AuctionRow) → sound a ≡ true → (orders : List Order) (responses : List Response) → All (λ o. 0 < o.number) orders → All (λ r. 0 < r.number) responses → Settled (deal_of a) (contra_of a orders responses) (fills_of awards (deal_of a) (contra_of a orders responses))
+pub settled_auction : (awards : List ℕ → ℕ → List ℕ) → Shares awards → (a : AuctionRow) → sound a ≡ true → (orders : List Order) (responses : List Response) → AllByRecursion (λ o. 0 < o.number) orders → AllByRecursion (λ r. 0 < r.number) responses → Settled (deal_of a) (contra_of a orders responses) (fills_of awards (deal_of a) (contra_of a orders responses))
 settled_auction awards s a fits orders responses os rs =
     settled awards s (deal_of a) (contra_of a orders responses) (lawful a fits orders responses os rs) (cap_is_fit a fits)

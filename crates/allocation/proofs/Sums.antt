@@ -1,6 +1,6 @@
 -- Sums over lists: by parts, of what a filter keeps, and in another order.
 use Rattle.std.proofs.Common.{◌≡◌, ℕ, ◌+◌, ◌≤◌, Bool, cond, not, List, [], ◌∷◌, ◌++◌, length, filter, refl, arith}
-use Rattle.std.specs.List.{flat_map, AllByRecursion as All}
+use Rattle.std.specs.List.{flat_map, AllByRecursion}
 use Rattle.allocation.specs.Parts.{total}
 
 abbrev pub one : {X : Type 0} → X → ℕ
@@ -42,12 +42,12 @@ total_one [] = refl
 total_one (x ∷ xs) = omega (arith, total_one xs)
 
 module _ {X : Type 0} (f g : X → ℕ) where
-  pub total_same : (xs : List X) → All (λ x. f x ≡ g x) xs → total f xs ≡ total g xs
+  pub total_same : (xs : List X) → AllByRecursion (λ x. f x ≡ g x) xs → total f xs ≡ total g xs
   unfolding total
   total_same [] a = refl
   total_same (x ∷ xs) a = omega (arith, a.0, total_same xs a.1)
 
-  pub total_le : (xs : List X) → All (λ x. f x ≤ g x) xs → total f xs ≤ total g xs
+  pub total_le : (xs : List X) → AllByRecursion (λ x. f x ≤ g x) xs → total f xs ≤ total g xs
   unfolding total
   total_le [] a = omega arith
   total_le (x ∷ xs) a = omega (arith, a.0, total_le xs a.1)

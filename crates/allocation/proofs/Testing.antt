@@ -2,7 +2,7 @@
 -- level gives all.
 use Rattle.std.proofs.Common.{◌≡◌, ℕ, ◌+◌, ◌-◌, ◌≤◌, min, Bool, true, false, cond, not, List, [], ◌∷◌, refl, arith}
 use Rattle.ranked.specs.declared.contra.ContraItem.{ContraItem}
-use Rattle.std.specs.List.{AllByRecursion as All}
+use Rattle.std.specs.List.{AllByRecursion}
 use Rattle.allocation.specs.Parts.{Part, after_customers, come, counts, customers_in, customers_of, dealt, given_in, group_of, group_sizes, is_customer, leaders_in, others_in, parts_in, shared, total}
 use Rattle.allocation.proofs.Giving.{groups_split}
 use Rattle.allocation.proofs.Sums.{total_append, total_both}
@@ -54,13 +54,13 @@ parts_full t awards here q kept e =
     (arith, gain_both t (parts_in awards here q kept), worth_both t here, parts_within t awards here q kept, parts_within (λ x. not (t x)) awards here q kept)
 
 -- where none passes, nothing counts
-pub worth_none : (t : ContraItem → Bool) (xs : List ContraItem) → All (λ x. t x ≡ false) xs → total (worth t) xs ≡ 0
+pub worth_none : (t : ContraItem → Bool) (xs : List ContraItem) → AllByRecursion (λ x. t x ≡ false) xs → total (worth t) xs ≡ 0
 unfolding total
 worth_none t [] a = refl
 worth_none t (x ∷ xs) a = let e = a.0 in let f = worth_none t xs a.1 in grind arith
 
 -- where all pass, what they are given is given in all
-pub gain_all : (t : ContraItem → Bool) (ps : List Part) → All (λ p. t p.item ≡ true) ps → total (gain t) ps ≡ total given_in ps
+pub gain_all : (t : ContraItem → Bool) (ps : List Part) → AllByRecursion (λ p. t p.item ≡ true) ps → total (gain t) ps ≡ total given_in ps
 unfolding total
 gain_all t [] a = refl
 gain_all t (p ∷ ps) a = let e = a.0 in let f = gain_all t ps a.1 in grind arith

@@ -3,7 +3,7 @@ use Rattle.std.proofs.Common.{◌≡◌, ℕ, ◌+◌, ◌-◌, ◌≤◌, true,
 use lib.Signed.{lt_z}
 use Rattle.std.proofs.ByRecursion.{All-weaker}
 use Rattle.std.proofs.lemmas.Int.{ints}
-use Rattle.std.specs.List.{AllByRecursion as All}
+use Rattle.std.specs.List.{AllByRecursion}
 use Rattle.ranked.specs.declared.contra.ContraItem.{ContraItem}
 use Rattle.contra.specs.Kinds.{firsts, same_level, same_price}
 use Rattle.contra.proofs.Alike.{firsts_few, level_itself, level_passed, level_turned}
@@ -54,7 +54,7 @@ module _ (d : Deal) (items : List ContraItem) where
   pub levels_most : (w : ContraItem → ℕ) → by_level w ≤ total w items
   levels_most w = omega (arith, levels_split w, total_most (share w) w (λ z. share_most (w z) z.level d.stop) items)
 
-  pub levels_whole : (w : ContraItem → ℕ) → All (λ x. x.level ≤ℤ d.stop) items → by_level w ≡ total w items
+  pub levels_whole : (w : ContraItem → ℕ) → AllByRecursion (λ x. x.level ≤ℤ d.stop) items → by_level w ≡ total w items
   levels_whole w a =
       levels_split w ∙ total_same (share w) w items (All-weaker _ _ (λ z h. share_whole (w z) z.level d.stop h) items a)
 

@@ -1,6 +1,6 @@
 -- What holds of every settlement, over its items and its fills as a buyer sees them.
 use Rattle.std.specs.Prelude.{◌≡◌, ℕ, ◌+◌, ◌-◌, ◌*◌, ◌<◌, ◌≤◌, min, Bool, true, not, ◌&&◌, ◌⊎◌, List, [], ◌∷◌, length, ℤ, ◌≤ℤ◌, ◌<ℤ◌, filter, ◌==◌, int_lt, nat_eq}
-use Rattle.std.specs.List.{ContainsAt as Has, AllByRecursion as All}
+use Rattle.std.specs.List.{ContainsAt, AllByRecursion}
 use Rattle.ranked.specs.declared.contra.ContraItem.{ContraItem}
 use Rattle.ranked.specs.declared.fill.Fill.{Fill}
 use Rattle.auction.specs.Caps.{cap_fits}
@@ -56,7 +56,7 @@ guaranteed d items fills =
 -- a fill is the Initiating Order's, or that of an item at whose level it trades and which asks no more
 pub record Sale (items : List ContraItem) (f : Fill) : Type 0 where
   pub item : ContraItem
-  pub there : Has items item
+  pub there : ContainsAt items item
   pub user : item.user ≡ f.user
   pub number : item.number ≡ f.number
   pub level : item.level ≡ f.price
@@ -67,17 +67,17 @@ Sold d items f = ((f.number ≡ 0) × (f.user ≡ d.member)) ⊎ Sale items f
 
 -- some fill lies above a price
 abbrev pub Beyond : ℤ → List Fill → Type 0
-Beyond price fills = (f : Fill) × Has fills f × (price <ℤ f.price)
+Beyond price fills = (f : Fill) × ContainsAt fills f × (price <ℤ f.price)
 
 pub record Settled (d : Deal) (items : List ContraItem) (fills : List Fill) : Type 0 where
   -- the fills add up to the Agency size, and none is empty
   pub whole : total size_of fills ≡ d.size
-  pub some : All (λ f. 0 < f.size) fills
-  pub named : All (λ f. f.id ≡ d.id) fills
+  pub some : AllByRecursion (λ f. 0 < f.size) fills
+  pub named : AllByRecursion (λ f. f.id ≡ d.id) fills
   -- no fill lies above the stop, below the cap, or below its seller's price
-  pub under : All (λ f. f.price ≤ℤ d.stop) fills
-  pub above : All (λ f. cap_fits d.floor f.price ≡ true) fills
-  pub sold : All (Sold d items) fills
+  pub under : AllByRecursion (λ f. f.price ≤ℤ d.stop) fills
+  pub above : AllByRecursion (λ f. cap_fits d.floor f.price ≡ true) fills
+  pub sold : AllByRecursion (Sold d items) fills
   -- no item gets more than its counted contracts
   pub within : (n : ℕ) → 0 < n → filled_for n fills ≤ counted_for n items
   -- the Initiating Order holds at most its guarantee at the stop, or every item got all
@@ -90,15 +90,15 @@ pub record Settled (d : Deal) (items : List ContraItem) (fills : List Fill) : Ty
 -- each level is at or below all behind it
 abbrev pub Rising : List ContraItem → Type 0
 Rising [] = Unit {0}
-Rising (x ∷ xs) = All (λ y. x.level ≤ℤ y.level) xs × Rising xs
+Rising (x ∷ xs) = AllByRecursion (λ y. x.level ≤ℤ y.level) xs × Rising xs
 
 -- what settlement may expect of its items: they have numbers, their levels lie between the cap and
 -- the stop and not below what they ask, and the levels rise
 pub record Lawful (d : Deal) (items : List ContraItem) : Type 0 where
-  pub numbers : All (λ x. 0 < x.number) items
-  pub under : All (λ x. x.level ≤ℤ d.stop) items
-  pub above : All (λ x. cap_fits d.floor x.level ≡ true) items
-  pub asks : All (λ x. x.price ≤ℤ x.level) items
+  pub numbers : AllByRecursion (λ x. 0 < x.number) items
+  pub under : AllByRecursion (λ x. x.level ≤ℤ d.stop) items
+  pub above : AllByRecursion (λ x. cap_fits d.floor x.level ≡ true) items
+  pub asks : AllByRecursion (λ x. x.price ≤ℤ x.level) items
   pub rising : Rising items
 
 -- what a share rule promises, by its awards

@@ -1,6 +1,6 @@
 -- What a settlement writes, in true prices, and what holds of it.
 use Rattle.std.specs.Prelude.{◌≡◌, ℕ, ◌<◌, ◌≤◌, cond, List, map, length, ◌==◌}
-use Rattle.std.specs.List.{AllByRecursion as All}
+use Rattle.std.specs.List.{AllByRecursion}
 use Rattle.terms.specs.declared.auction.AuctionRow.{AuctionRow}
 use Rattle.terms.specs.declared.order.Order.{Order}
 use Rattle.terms.specs.declared.order.Response.{Response}
@@ -38,7 +38,7 @@ received_for n levels = total (λ (l : Level). total (given_for n) l.parts) leve
 pub record Outcome (awards : List ℕ → ℕ → List ℕ) (a : AuctionRow) (orders : List Order) (responses : List Response) (items : List ContraItem) (fills : List Fill) : Type 0 where
   pub contra : Contra a orders responses (shown_items a items)
   -- every order and response has a number from 1 on
-  pub settled : All (λ o. 0 < o.number) orders → All (λ r. 0 < r.number) responses → Settled (deal_of a) (shown_items a items) (shown_fills a fills)
+  pub settled : AllByRecursion (λ o. 0 < o.number) orders → AllByRecursion (λ r. 0 < r.number) responses → Settled (deal_of a) (shown_items a items) (shown_fills a fills)
   -- what each item received
   pub received : (n : ℕ) → 0 < n → filled_for n fills ≡ received_for n (levels_of awards (deal_of a) (contra_of a orders responses))
   pub most : length fills ≤ 257

@@ -1,6 +1,6 @@
 -- Items of one kind, and the first of each kind.
 use Rattle.std.proofs.Common.{◌≡◌, ◌≤◌, Bool, true, false, cond, ◌||◌, List, [], ◌∷◌, ◌++◌, length, ℤ, sym, refl, ◌∙◌, arith}
-use Rattle.std.specs.List.{AllByRecursion as All}
+use Rattle.std.specs.List.{AllByRecursion}
 use Rattle.std.proofs.ByRecursion.{All-weaker}
 use Rattle.std.proofs.lemmas.Int.{ints}
 use Rattle.std.proofs.lemmas.Bool.{cond_both, eq-eqb, or_left, or_parts, or_right}
@@ -9,7 +9,7 @@ use Rattle.ranked.specs.declared.contra.ContraItem.{ContraItem}
 use Rattle.contra.specs.Kinds.{firsts, same_level, same_price, same_user, some}
 
 -- two facts of each element make a third
-pub all_both : {X : Type 0} (P Q R : X → Type 0) → ((x : X) → P x → Q x → R x) → (xs : List X) → All P xs → All Q xs → All R xs
+pub all_both : {X : Type 0} (P Q R : X → Type 0) → ((x : X) → P x → Q x → R x) → (xs : List X) → AllByRecursion P xs → AllByRecursion Q xs → AllByRecursion R xs
 all_both P Q R h [] a b = tt
 all_both P Q R h (x ∷ xs) a b = (h x a.0 b.0, all_both P Q R h xs a.1 b.1)
 
@@ -32,12 +32,12 @@ module _ {X : Type 0} (p : X → Bool) where
   some_push [] x = grind arith
   some_push (y ∷ ys) x = let e = some_push ys x in grind arith
 
-  pub none_passes : (xs : List X) → some p xs ≡ false → All (λ x. p x ≡ false) xs
+  pub none_passes : (xs : List X) → some p xs ≡ false → AllByRecursion (λ x. p x ≡ false) xs
   unfolding some
   none_passes [] e = tt
   none_passes (x ∷ xs) e = let a : p x ≡ false = grind arith in let b : some p xs ≡ false = grind arith in (a, none_passes xs b)
 
-  pub passes_none : (xs : List X) → All (λ x. p x ≡ false) xs → some p xs ≡ false
+  pub passes_none : (xs : List X) → AllByRecursion (λ x. p x ≡ false) xs → some p xs ≡ false
   unfolding some
   passes_none [] a = refl
   passes_none (x ∷ xs) a = let e = a.0 in let f = passes_none xs a.1 in grind arith
@@ -52,29 +52,29 @@ module _ {X : Type 0} (same : X → X → Bool) where
   firsts_few [] seen = omega arith
   firsts_few (x ∷ xs) seen = let e = firsts_few xs (seen ++ x ∷ []) in grind arith
 
-  pub firsts_all : (P : X → Type 0) (xs seen : List X) → All P xs → All P (firsts same seen xs)
+  pub firsts_all : (P : X → Type 0) (xs seen : List X) → AllByRecursion P xs → AllByRecursion P (firsts same seen xs)
   unfolding firsts
   firsts_all P [] seen a = tt
   firsts_all P (x ∷ xs) seen a =
-      cond_both (some (same x) seen) _ _ (All P)
+      cond_both (some (same x) seen) _ _ (AllByRecursion P)
       (λ e. firsts_all P xs (seen ++ x ∷ []) a.1)
       (λ e. (a.0, firsts_all P xs (seen ++ x ∷ []) a.1))
 
   -- none is of a kind seen before
-  pub firsts_new : (xs seen : List X) → All (λ y. some (same y) seen ≡ false) (firsts same seen xs)
+  pub firsts_new : (xs seen : List X) → AllByRecursion (λ y. some (same y) seen ≡ false) (firsts same seen xs)
   unfolding firsts
   firsts_new [] seen = tt
   firsts_new (x ∷ xs) seen =
       let back : (y : X) → some (same y) (seen ++ x ∷ []) ≡ false → some (same y) seen ≡ false = λ y e. (or_parts _ (same y x) (sym (some_push (same y) seen x) ∙ e)).0 in
-      let rest : All (λ y. some (same y) seen ≡ false) (firsts same (seen ++ x ∷ []) xs) = All-weaker _ _ back _ (firsts_new xs (seen ++ x ∷ [])) in
-      cond_both (some (same x) seen) _ _ (All (λ y. some (same y) seen ≡ false)) (λ e. rest) (λ e. (e, rest))
+      let rest : AllByRecursion (λ y. some (same y) seen ≡ false) (firsts same (seen ++ x ∷ []) xs) = All-weaker _ _ back _ (firsts_new xs (seen ++ x ∷ [])) in
+      cond_both (some (same x) seen) _ _ (AllByRecursion (λ y. some (same y) seen ≡ false)) (λ e. rest) (λ e. (e, rest))
 
   -- no two are of one kind
   abbrev pub Apart : List X → Type 0
   Apart [] = Unit {0}
-  Apart (x ∷ xs) = All (λ y. same y x ≡ false) xs × Apart xs
+  Apart (x ∷ xs) = AllByRecursion (λ y. same y x ≡ false) xs × Apart xs
 
-  pub firsts_behind : (xs seen : List X) (x : X) → All (λ y. same y x ≡ false) (firsts same (seen ++ x ∷ []) xs)
+  pub firsts_behind : (xs seen : List X) (x : X) → AllByRecursion (λ y. same y x ≡ false) (firsts same (seen ++ x ∷ []) xs)
   firsts_behind xs seen x =
       All-weaker _ _ (λ y e. (or_parts (some (same y) seen) _ (sym (some_push (same y) seen x) ∙ e)).1) _ (firsts_new xs (seen ++ x ∷ []))
 
@@ -84,7 +84,7 @@ module _ {X : Type 0} (same : X → X → Bool) where
   firsts_apart (x ∷ xs) seen =
       cond_both (some (same x) seen) _ _ Apart (λ e. firsts_apart xs (seen ++ x ∷ [])) (λ e. (firsts_behind xs seen x, firsts_apart xs (seen ++ x ∷ [])))
 
-  pub some_itself : (itself : (x : X) → same x x ≡ true) (xs : List X) → All (λ z. some (same z) xs ≡ true) xs
+  pub some_itself : (itself : (x : X) → same x x ≡ true) (xs : List X) → AllByRecursion (λ z. some (same z) xs ≡ true) xs
   unfolding some
   some_itself itself [] = tt
   some_itself itself (x ∷ xs) = (or_left _ _ (itself x), All-weaker _ _ (λ z e. or_right (same z x) _ e) xs (some_itself itself xs))

@@ -8,7 +8,7 @@ use Rattle.std.proofs.ByRecursion.{all_shuffled}
 use Rattle.std.proofs.lemmas.List.Sums.{sum_by-cons, sum_by_push}
 use Rattle.std.proofs.lemmas.Bool.{cases_Bool}
 use Rattle.std.proofs.lemmas.Bool.Decides.{nat_tests}
-use Rattle.std.specs.List.{AllZip, AllByRecursion as All}
+use Rattle.std.specs.List.{AllZip, AllByRecursion}
 use Rattle.terms.specs.declared.auction.AuctionRow.{AuctionRow}
 use Rattle.terms.specs.declared.order.Order.{Order}
 use Rattle.terms.specs.declared.order.Response.{Response}
@@ -70,7 +70,7 @@ module _ (size : ℕ) where
   counted_each (x ∷ xs) earlier = (refl, counted_each xs (earlier ++ x ∷ []))
 
   -- what does not look at the count stays
-  pub counted_all : (P : ContraItem → Type 0) → ((x : ContraItem) (n : ℕ) → P x → P (with_counted x n)) → (xs earlier : List ContraItem) → All P xs → All P (counted_from size earlier xs)
+  pub counted_all : (P : ContraItem → Type 0) → ((x : ContraItem) (n : ℕ) → P x → P (with_counted x n)) → (xs earlier : List ContraItem) → AllByRecursion P xs → AllByRecursion P (counted_from size earlier xs)
   unfolding counted_from
   counted_all P h [] earlier a = tt
   counted_all P h (x ∷ xs) earlier a = (h x _ a.0, counted_all P h xs (earlier ++ x ∷ []) a.1)
@@ -92,7 +92,7 @@ before_passed x y z e f =
     (λ e f. last_passed x.number y.number z.number e f))
 
 module _ (a : AuctionRow) (orders : List Order) (responses : List Response) where
-  pub contra_all : (P : ContraItem → Type 0) → ((x : ContraItem) (n : ℕ) → P x → P (with_counted x n)) → All P (named a orders responses) → All P (contra_of a orders responses)
+  pub contra_all : (P : ContraItem → Type 0) → ((x : ContraItem) (n : ℕ) → P x → P (with_counted x n)) → AllByRecursion P (named a orders responses) → AllByRecursion P (contra_of a orders responses)
   contra_all P h all =
       counted_all a.size P h (ranked_of a orders responses) [] (all_shuffled P _ _ (folded_whole contra_before (named a orders responses) []) all)
 
@@ -124,5 +124,5 @@ law_there a os os' rs rs' old now n e f h k count after =
     let P : List ContraItem → Type 0 = Contra a os' rs' in
     subst P (sym front) (contra_law a os' rs' (omega (arith, ap length e)) (omega (arith, ap length f)))
 
-pub turns_there : (P : ContraItem → Type 0) → ((x : ContraItem) (n : ℕ) → P x → P (with_counted x n)) → (a : AuctionRow) (os os' : List Order) (rs rs' : List Response) → os ≡ os' → rs ≡ rs' → All P (named a os rs) → All P (contra_of a os' rs')
+pub turns_there : (P : ContraItem → Type 0) → ((x : ContraItem) (n : ℕ) → P x → P (with_counted x n)) → (a : AuctionRow) (os os' : List Order) (rs rs' : List Response) → os ≡ os' → rs ≡ rs' → AllByRecursion P (named a os rs) → AllByRecursion P (contra_of a os' rs')
 turns_there P keeps a os os' rs rs' e f all = rw (← e, ← f) (contra_all a os rs P keeps all)

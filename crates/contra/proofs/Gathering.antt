@@ -3,7 +3,7 @@ use Rattle.std.proofs.Common.{◌≡◌, ℕ, ◌+◌, ◌<◌, ◌≤◌, Bool,
 use Rattle.std.proofs.lemmas.List.{append_assoc, append-nil, take_all, take_more, drop_at, drop-drop, length-append, length-drop, length-take-le, take-append-drop, take_at}
 use Rattle.std.proofs.lemmas.List.Sorted.{length_permutation}
 use Rattle.std.proofs.ByRecursion.{All-append}
-use Rattle.std.specs.List.{flat_map, AllByRecursion as All}
+use Rattle.std.specs.List.{flat_map, AllByRecursion}
 use Rattle.ranked.proofs.Placement.{folded_whole}
 use Rattle.std.specs.Option.{option_to_list}
 use Rattle.std.proofs.lemmas.Bool.{lt-ltb}
@@ -102,18 +102,18 @@ module _ {X Y : Type 0} (f : Y → Option X) where
   made_few ys i h = omega (arith, made_length (take i ys), length-take-le i ys h)
 
   -- what holds of each record that is made
-  pub made_turns : (P : X → Type 0) (ys : List Y) (i : ℕ) (y : Y) (item : Option X) → i < length ys → y ≡ get_or ys i y → item ≡ f y → All P (made (take i ys)) → IfSome item P → All P (made (take (i + 1) ys))
+  pub made_turns : (P : X → Type 0) (ys : List Y) (i : ℕ) (y : Y) (item : Option X) → i < length ys → y ≡ get_or ys i y → item ≡ f y → AllByRecursion P (made (take i ys)) → IfSome item P → AllByRecursion P (made (take (i + 1) ys))
   made_turns P ys i y item h read is a k =
       let e : made (take (i + 1) ys) ≡ made (take i ys) ++ option_to_list item = made_more ys i y h read ∙ ap (λ o. made (take i ys) ++ option_to_list o) (sym is) in
-      let Q : List X → Type 0 = All P in
+      let Q : List X → Type 0 = AllByRecursion P in
       subst Q (sym e) (All-append P (made (take i ys)) (option_to_list item) a (one item k))
     where
-      one : (o : Option X) → IfSome o P → All P (option_to_list o)
+      one : (o : Option X) → IfSome o P → AllByRecursion P (option_to_list o)
       one None k = tt
       one (Some x) k = (k, tt)
 
-  pub made_all : (P : X → Type 0) (ys : List Y) (i : ℕ) → length ys ≤ i → All P (made (take i ys)) → All P (made ys)
-  made_all P ys i h a = let Q : List Y → Type 0 = λ l. All P (made l) in subst Q (take_all i ys h) a
+  pub made_all : (P : X → Type 0) (ys : List Y) (i : ℕ) → length ys ≤ i → AllByRecursion P (made (take i ys)) → AllByRecursion P (made ys)
+  made_all P ys i h a = let Q : List Y → Type 0 = λ l. AllByRecursion P (made l) in subst Q (take_all i ys h) a
 
   -- the first i entries were put into a list that had `start` records over `old`, which gives `len` over zs
   module _ (before : X → X → Bool) (ys : List Y) (old zs : List X) (start len i : ℕ) (after : zs ≡ gathered before old start (made (take i ys))) (grown : len ≡ start + length (made (take i ys))) (fits : start + length ys ≤ length old) where

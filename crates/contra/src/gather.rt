@@ -1,7 +1,7 @@
 // Puts the contra items of an auction into an ordered list.
 ghost use Rattle.std.specs.Prelude.{◌≡◌, ◌+◌, ◌<◌, ◌≤◌, ◌++◌, length, drop};
 ghost use Rattle.std.specs.Option.{option_to_list};
-ghost use Rattle.std.specs.List.{AllByRecursion as All};
+ghost use Rattle.std.specs.List.{AllByRecursion};
 ghost use Rattle.ranked.specs.Contras.{contra_before};
 ghost use Rattle.ranked.specs.Orders.{places};
 ghost use Rattle.contra.specs.Gathered.{gathered};
@@ -38,7 +38,7 @@ fn gather<T: Interest>(list: &mut Ordered<'_, ContraItem>, auction: &Auction, en
     ensures len { list.new.len ≡ list.old.len + length (items_of (T.Interest.item auction.now.row) entries.now) }
     ensures size { length (places list.new) ≡ length (places list.old) }
     ensures owner { list.new.items.ghost_name ≡ list.old.items.ghost_name }
-    ensures turns { All (ItemTurns auction.now.row.side) (items_of (T.Interest.item auction.now.row) entries.now) }
+    ensures turns { AllByRecursion (ItemTurns auction.now.row.side) (items_of (T.Interest.item auction.now.row) entries.now) }
 {
     for i in 0..entries.len() {
         put(list, entries[i].item(auction));
@@ -56,7 +56,7 @@ pub fn rank(
     requires { length orders.now + length responses.now ≤ length list.old }
     ensures value { result ≡ length (named auction.now.row orders.now responses.now) }
     ensures few { result ≤ length orders.now + length responses.now }
-    ensures turns { All (ItemTurns auction.now.row.side) (named auction.now.row orders.now responses.now) }
+    ensures turns { AllByRecursion (ItemTurns auction.now.row.side) (named auction.now.row orders.now responses.now) }
     ensures after { list.new ≡ ranked_of auction.now.row orders.now responses.now ++ drop result list.old }
 {
     let mut ranked = Ordered::new(list);

@@ -1,6 +1,6 @@
 // The contra items of an auction, ranked and counted, as a buyer sees them.
 ghost use Rattle.std.specs.Prelude.{◌≡◌, ◌≤◌, ◌++◌, length, take, drop, is_ok, IfOk, if◌then◌else◌, OnOk};
-ghost use Rattle.std.specs.List.{AllByRecursion as All};
+ghost use Rattle.std.specs.List.{AllByRecursion};
 ghost use Rattle.terms.specs.Refusals.{said};
 ghost use Rattle.terms.specs.Tables.{entries};
 ghost use Rattle.contra.specs.Counting.{contra_of};
@@ -28,7 +28,7 @@ pub fn contra_items(
     ensures answer { said result ≡ contra_said (length list.old) (length (contra_of auction.now.row (entries orders.now) (entries responses.now))) }
     ensures after { list.new ≡ (if is_ok result then contra_of auction.now.row (entries orders.now) (entries responses.now) ++ drop (length (contra_of auction.now.row (entries orders.now) (entries responses.now))) list.old else list.old) }
     ensures within { IfOk result (λ n. n ≤ length list.new) }
-    ensures turns { OnOk result (All (ItemTurns auction.now.row.side) (contra_of auction.now.row (entries orders.now) (entries responses.now))) }
+    ensures turns { OnOk result (AllByRecursion (ItemTurns auction.now.row.side) (contra_of auction.now.row (entries orders.now) (entries responses.now))) }
     ensures law { IfOk result (λ n. Contra auction.now.row (entries orders.now) (entries responses.now) (take n list.new)) }
 {
     if list.len() < 128 {

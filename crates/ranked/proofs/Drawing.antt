@@ -3,7 +3,7 @@ use Rattle.std.proofs.Common.{◌≡◌, ℕ, zero, suc, ◌+◌, ◌-◌, ◌<�
 use Rattle.std.proofs.lemmas.List.{append_assoc, append-nil, drop_all, drop_more, drop-set-lt, take_all, take_more_set}
 use Rattle.std.proofs.lemmas.List.Sums.{sum_by-cons, sum_by_more}
 use Rattle.std.proofs.lemmas.Bool.{cases_lt}
-use Rattle.std.specs.List.{AllZip, AllByRecursion as All}
+use Rattle.std.specs.List.{AllZip, AllByRecursion}
 use Rattle.ranked.specs.Draws.{Drawing, drawn}
 use Rattle.ranked.specs.Ranks.{InOrder}
 
@@ -78,7 +78,7 @@ module _ {X : Type 0} (contracts : X → ℕ) (reduced : X → ℕ → X) where
       drawn_each (x ∷ xs) q = ((ranked x (min q (contracts x)), omega (arith, given_up x q)), drawn_each xs (q - min q (contracts x)))
 
       module _ (before : X → X → Bool) (level : (x y : X) → rank x ≡ rank y → before x y ≡ true) (passed : (x y z : X) → before x y ≡ true → before y z ≡ true → before x z ≡ true) where
-        all_behind : (x y : X) → rank y ≡ rank x → (xs ys : List X) → AllZip Gives xs ys → All (λ z. before x z ≡ true) xs → All (λ z. before y z ≡ true) ys
+        all_behind : (x y : X) → rank y ≡ rank x → (xs ys : List X) → AllZip Gives xs ys → AllByRecursion (λ z. before x z ≡ true) xs → AllByRecursion (λ z. before y z ≡ true) ys
         all_behind x y e [] [] p a = tt
         all_behind x y e [] (w ∷ ws) p a = elim p [ ]
         all_behind x y e (z ∷ zs) [] p a = elim p [ ]

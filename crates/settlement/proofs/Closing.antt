@@ -2,7 +2,7 @@
 use Rattle.std.proofs.Common.{◌≡◌, ℕ, ◌+◌, ◌-◌, ◌<◌, ◌≤◌, Bool, true, false, cond, ◌&&◌, leb, List, [], ◌∷◌, ◌++◌, map, length, take, drop, sym, refl, ap, ◌∙◌, subst, inl, inr, arith, w32, SFits}
 use Rattle.std.proofs.lemmas.List.{drop_at, length-map, take_at}
 use Rattle.std.proofs.lemmas.Bool.{and_from, cases_lt, cond-false, cond-true, le-leb, lt-leb}
-use Rattle.std.specs.List.{AllByRecursion as All}
+use Rattle.std.specs.List.{AllByRecursion}
 use Rattle.terms.specs.Refusals.{Said, answered, nothing, refused, row}
 use Rattle.terms.specs.declared.auction.AuctionRow.{AuctionRow}
 use Rattle.terms.specs.declared.order.Order.{Order}
@@ -46,7 +46,7 @@ module _ (awards : List ℕ → ℕ → List ℕ) (shares : Shares awards) (a : 
   abbrev fills : List Fill
   fills = auction_fills awards a orders responses
 
-  module _ (old list : List ContraItem) (n : ℕ) {F : Type 0} (answer : ◌≡◌ {A = Said ℕ F} (answered n) (contra_said (length old) (length items))) (after : list ≡ over items old) (law : Contra a orders responses (take n list)) (turns : All (ItemTurns a.side) items) (stop : SFits w32 a.stop) where
+  module _ (old list : List ContraItem) (n : ℕ) {F : Type 0} (answer : ◌≡◌ {A = Said ℕ F} (answered n) (contra_said (length old) (length items))) (after : list ≡ over items old) (law : Contra a orders responses (take n list)) (turns : AllByRecursion (ItemTurns a.side) items) (stop : SFits w32 a.stop) where
     count : n ≡ length items
     count = (said_count n (length old) (length items) answer).0
 
@@ -68,10 +68,10 @@ module _ (awards : List ℕ → ℕ → List ℕ) (shares : Shares awards) (a : 
     pub close_room : (places : ℕ) → 257 ≤ places → length (fills_of awards (deal_of a) (take (n - 0) list)) ≤ places
     close_room places h = omega (arith, ap (λ xs. length (fills_of awards (deal_of a) xs)) here, fills_most awards shares a ok orders responses lawful)
 
-    pub close_turns : All (ItemTurns a.side) (take (n - 0) list)
-    close_turns = let P : List ContraItem → Type 0 = All (ItemTurns a.side) in subst P (sym here) turns
+    pub close_turns : AllByRecursion (ItemTurns a.side) (take (n - 0) list)
+    close_turns = let P : List ContraItem → Type 0 = AllByRecursion (ItemTurns a.side) in subst P (sym here) turns
 
-    pub close_filled : All (FillTurns a.side) (fills_of awards (deal_of a) (take (n - 0) list))
+    pub close_filled : AllByRecursion (FillTurns a.side) (fills_of awards (deal_of a) (take (n - 0) list))
     close_filled = fills_turn awards a (take (n - 0) list) close_turns (stop_turns a stop)
 
     module _ (before now : List Fill) (m : ℕ) (ys : List ContraItem) (long : 257 ≤ length before) (written_count : m ≡ length (fills_of awards (deal_of a) (take (n - 0) list))) (shown : ys ≡ shown_items a (take (n - 0) list)) (done : now ≡ over (shown_fills a (fills_of awards (deal_of a) (take (n - 0) list))) before) where

@@ -1,7 +1,7 @@
 -- The lists at the end of a settlement.
 use Rattle.std.proofs.Common.{◌≡◌, ℕ, ◌+◌, ◌-◌, ◌<◌, ◌≤◌, Bool, true, false, cond, ◌&&◌, List, [], ◌∷◌, ◌++◌, map, length, take, drop, sym, refl, ap, ◌∙◌, subst, arith}
 use Rattle.std.proofs.lemmas.List.{drop_at, length-map, take_at}
-use Rattle.std.specs.List.{AllByRecursion as All}
+use Rattle.std.specs.List.{AllByRecursion}
 use Rattle.terms.specs.declared.side.Side.{Side}
 use Rattle.ranked.specs.declared.contra.ContraItem.{ContraItem}
 use Rattle.ranked.specs.declared.fill.Fill.{Fill}
@@ -25,10 +25,10 @@ module _ (side side' : Side) (same : side' ≡ side) (new old now : List Fill) (
   behind : drop (n - 0) now ≡ drop n old
   behind = ap (λ k. drop k now) whole ∙ (ap (drop n) parts ∙ (drop_at new _ n (sym count) ∙ ap (λ k. drop k old) (sym count)))
 
-  pub front_turns : All (FillTurns side) new → All (FillTurns side') (take (n - 0) now)
+  pub front_turns : AllByRecursion (FillTurns side) new → AllByRecursion (FillTurns side') (take (n - 0) now)
   front_turns a =
-      let P : List Fill → Type 0 = All (FillTurns side') in
-      let Q : Side → Type 0 = λ s. All (FillTurns s) new in
+      let P : List Fill → Type 0 = AllByRecursion (FillTurns side') in
+      let Q : Side → Type 0 = λ s. AllByRecursion (FillTurns s) new in
       subst P (sym front) (subst Q (sym same) a)
 
   pub front_shown : (ys : List Fill) → ys ≡ map (shown_fill side') (take (n - 0) now) → ys ++ drop (n - 0) now ≡ over (map (shown_fill side) new) old

@@ -3,7 +3,7 @@ use Rattle.std.proofs.Common.{◌≡◌, ℕ, ◌+◌, ◌-◌, ◌<◌, ◌≤�
 use Rattle.std.proofs.lemmas.List.Edits.{map_over_more}
 use Rattle.std.proofs.ByRecursion.{All-get_or}
 use Rattle.std.proofs.lemmas.List.{append-nil, drop_all, drop_more, get_or_at, get_or_default, length-map, length-take-le, take_all}
-use Rattle.std.specs.List.{AllByRecursion as All}
+use Rattle.std.specs.List.{AllByRecursion}
 
 module _ {X : Type 0} (f : X → X) (old now : List X) (i : ℕ) (inv : now ≡ map f (take i old) ++ drop i old) where
   module _ (h : i < length old) where
@@ -12,7 +12,7 @@ module _ {X : Type 0} (f : X → X) (old now : List X) (i : ℕ) (inv : now ≡ 
         ap (λ l. get_or l i d) (inv ∙ ap (λ l. map f (take i old) ++ l) (drop_more old i d h))
         ∙ get_or_at (map f (take i old)) (get_or old i d) (drop (i + 1) old) d i (length-map (take i old) f ∙ length-take-le i old (omega arith))
 
-    pub shown_turns : (P : X → Type 0) (d : X) → All P old → P (get_or now i d)
+    pub shown_turns : (P : X → Type 0) (d : X) → AllByRecursion P old → P (get_or now i d)
     shown_turns P d a = subst P (sym (same_here d)) (All-get_or P old i d h a)
 
     pub shown_on : (d y : X) → i < length now → y ≡ f (get_or now i d) → set now i y ≡ map f (take (i + 1) old) ++ drop (i + 1) old

@@ -1,6 +1,6 @@
 // Settles one auction: which contracts go to whom at which price.
 ghost use Rattle.std.specs.Prelude.{◌≡◌, ◌+◌, ◌≤◌, length, take, is_ok, IfOk, if◌then◌else◌};
-ghost use Rattle.std.specs.List.{AllByRecursion as All};
+ghost use Rattle.std.specs.List.{AllByRecursion};
 ghost use Rattle.terms.specs.Refusals.{said};
 ghost use Rattle.terms.specs.Tables.{entries};
 ghost use Rattle.contra.specs.Counting.{contra_of};
@@ -36,8 +36,8 @@ fn fill_and_show<S: ShareRule>(
     requires few { length items.old ≤ 128 }
     requires fits { LevelsFit items.old }
     requires room { length (fills_of (S.ShareRule.awards rule.now) (deal_of auction.now.row) items.old) ≤ length fills.old }
-    requires turns { All (ItemTurns auction.now.row.side) items.old }
-    requires filled { All (FillTurns auction.now.row.side) (fills_of (S.ShareRule.awards rule.now) (deal_of auction.now.row) items.old) }
+    requires turns { AllByRecursion (ItemTurns auction.now.row.side) items.old }
+    requires filled { AllByRecursion (FillTurns auction.now.row.side) (fills_of (S.ShareRule.awards rule.now) (deal_of auction.now.row) items.old) }
     ensures count { result ≡ length (fills_of (S.ShareRule.awards rule.now) (deal_of auction.now.row) items.old) }
     ensures items { items.new ≡ shown_items auction.now.row items.old }
     ensures fills { fills.new ≡ over (shown_fills auction.now.row (fills_of (S.ShareRule.awards rule.now) (deal_of auction.now.row) items.old)) fills.old }

@@ -1,6 +1,6 @@
 // Shows lists in true prices: for a selling auction what a buyer would see is negated.
 ghost use Rattle.std.specs.Prelude.{◌≡◌, map};
-ghost use Rattle.std.specs.List.{AllByRecursion as All};
+ghost use Rattle.std.specs.List.{AllByRecursion};
 ghost use Rattle.terms.specs.declared.side.Side.{Side as Way};
 ghost use Rattle.allocation.specs.Shown.{shown_fill, shown_item};
 ghost use Rattle.contra.specs.Turns.{ItemTurns};
@@ -52,7 +52,7 @@ impl Shown for Fill {
 
 // Shows every record in true prices.
 pub fn show_all<T: Shown + Copy>(side: Side, records: &mut [T])
-    requires { All (T.Shown.turns side) records.old }
+    requires { AllByRecursion (T.Shown.turns side) records.old }
     ensures { records.new ≡ map (T.Shown.shown side) records.old }
 {
     for record in records.iter_mut() {

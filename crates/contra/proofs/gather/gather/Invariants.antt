@@ -1,7 +1,7 @@
 use Rattle.std.proofs.Common.{◌≡◌, ◌+◌, length, take}
 use Rattle.ranked.specs.Contras.{contra_before}
 use Rattle.ranked.specs.Orders.{places}
-use Rattle.std.specs.List.{AllByRecursion as All}
+use Rattle.std.specs.List.{AllByRecursion}
 use Rattle.contra.specs.Turns.{ItemTurns}
 use Rattle.contra.specs.Gathered.{gathered}
 use Rattle.contra.specs.Named.{items_of}
@@ -13,4 +13,4 @@ invariant-loop-i g l =
     × (l.list.len ≡ l.initial.list.len + length (items_of (g.T.Interest.item l.auction.row) (take l.i l.entries)))
     × (length (places l.list) ≡ length (places l.initial.list))
     × (l.list.items.ghost_name ≡ l.initial.list.items.ghost_name)
-    × All (ItemTurns l.auction.row.side) (items_of (g.T.Interest.item l.auction.row) (take l.i l.entries))
+    × AllByRecursion (ItemTurns l.auction.row.side) (items_of (g.T.Interest.item l.auction.row) (take l.i l.entries))

@@ -6,8 +6,8 @@ use Rattle.settlement.proofs.deal.deal_groups.Goals as goal
 pub loop-i-init : goal.loop-i-init
 loop-i-init c = (refl, refl, refl, all_groups c.args.others.now c.args.awards.now c.requires.each)
 
-pub deal-at-dealing-requires : goal.deal-at-dealing-requires
-deal-at-dealing-requires c =
+pub deal_at-dealing-requires : goal.deal_at-dealing-requires
+deal_at-dealing-requires c =
     let d = deal_of c.args.auction.now.row in
     let i = c.loop-i.invariant in
     let z : c.loop-i.i - 0 ≡ c.loop-i.i = omega arith in
@@ -25,8 +25,8 @@ loop-i-preserved c =
     let i = c.loop-i.invariant in
     let z : c.loop-i.i - 0 ≡ c.loop-i.i = omega arith in
     let s = ap (λ n. take n c.args.others.now) z in
-    let g = c.deal-at-dealing.ensures.group in
-    let f = c.deal-at-dealing.ensures.filled in (
+    let g = c.deal_at-dealing.ensures.group in
+    let f = c.deal_at-dealing.ensures.filled in (
       turn_same d c.args.others.now c.args.awards.now _ _ _ _ _ _ _ i.0 i.1 i.2 i.3 c.requires.enough (omega (arith, c.requires.room)) _ c.loop-i-test.true _ s _ _ _ g f,
       turn_count d c.args.others.now c.args.awards.now _ _ _ _ _ _ _ i.0 i.1 i.2 i.3 c.requires.enough (omega (arith, c.requires.room)) _ c.loop-i-test.true _ s _ _ _ g f,
       turn_left d c.args.others.now c.args.awards.now _ _ _ _ _ _ _ i.0 i.1 i.2 i.3 c.requires.enough (omega (arith, c.requires.room)) _ c.loop-i-test.true _ s _ _ _ g f,

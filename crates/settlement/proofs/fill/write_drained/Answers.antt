@@ -9,20 +9,20 @@ use Rattle.settlement.proofs.fill.write_drained.Goals as goal
 pub bounds-after-i : goal.bounds-after-i
 bounds-after-i c = drain_after _ _ _ c.requires.less c.loop-i-test.true
 
-pub overflow-sub-given : goal.overflow-sub-given
-overflow-sub-given c = drain_less _ _ _ c.requires.less _ _ c.loop-i-test.true
+pub overflow_sub-given : goal.overflow_sub-given
+overflow_sub-given c = drain_less _ _ _ c.requires.less _ _ c.loop-i-test.true
 
-pub write-fill-next-requires : goal.write-fill-next-requires
-write-fill-next-requires c =
+pub write_fill-next-requires : goal.write_fill-next-requires
+write_fill-next-requires c =
     let i = c.loop-i.invariant in
-    let e = drain_fills (deal_of c.args.auction.now.row) c.args.before.now c.args.after.now c.loop-i.i c.requires.less _ _ _ _ c.loop-i-test.true refl c.item-fill.ensures in
+    let e = drain_fills (deal_of c.args.auction.now.row) c.args.before.now c.args.after.now c.loop-i.i c.requires.less _ _ _ _ c.loop-i-test.true refl c.item_fill.ensures in
     step_room _ _ _ _ _ _ i.0 i.1 _ _ e (omega arith)
 
 pub loop-i-preserved : goal.loop-i-preserved
 loop-i-preserved c =
     let i = c.loop-i.invariant in
-    let w = c.write-fill-next.ensures in
-    let e = drain_fills (deal_of c.args.auction.now.row) c.args.before.now c.args.after.now c.loop-i.i c.requires.less _ _ _ _ c.loop-i-test.true refl c.item-fill.ensures in
+    let w = c.write_fill-next.ensures in
+    let e = drain_fills (deal_of c.args.auction.now.row) c.args.before.now c.args.after.now c.loop-i.i c.requires.less _ _ _ _ c.loop-i-test.true refl c.item_fill.ensures in
     (step_same _ _ _ _ _ _ i.0 i.1 _ _ e (omega arith) _ _ w.after w.count, step_count _ _ _ _ _ _ i.0 i.1 _ _ e _ w.count)
 
 pub returns : goal.returns

@@ -5,8 +5,8 @@ use Rattle.settlement.proofs.group.group_sizes.Goals as goal
 pub loop-i-preserved : goal.loop-i-preserved
 loop-i-preserved c =
     let i = c.loop-i.invariant in
-    let p = c.put-size-count.ensures in (
-      sizes_on c.args.others.now c.loop-i.i _ _ i.0 i.1 _ _ c.put-size-count.result c.loop-i-test.true p.after,
+    let p = c.put_size-count.ensures in (
+      sizes_on c.args.others.now c.loop-i.i _ _ i.0 i.1 _ _ c.put_size-count.result c.loop-i-test.true p.after,
       sizes_few c.args.others.now c.loop-i.i _ _ i.0 i.1 _ _ p.value,
     )
 

@@ -10,15 +10,15 @@ use Rattle.settlement.proofs.levels.work_last.Goals as goal
 pub returns-then-progress-eq0 : goal.returns-then-progress-eq0
 returns-then-progress-eq0 g c = none_worked (deal_of c.args.auction.now.row) _ _ _ _ (sym (eq-eqb _ _ c.if-progress-eq0.true))
 
-pub work-stop-requires : goal.work-stop-requires
-work-stop-requires g c =
+pub work_stop-requires : goal.work_stop-requires
+work_stop-requires g c =
     let d = deal_of c.args.auction.now.row in
     let awards = g.S.ShareRule.awards c.args.rule.now in
     let here = items_at d.stop c.args.items.now in
-    let copied = c.pick-into-count.new.into in
-    let n = c.pick-into-count.result in
+    let copied = c.pick_into-count.new.into in
+    let n = c.pick_into-count.result in
     let sized : SFits w32 c.stop-level.result = search rules in
-    let is = c.pick-into-count.ensures.after ∙ ap (λ z. items_at z c.args.items.now) (to_z-of_z w32 c.stop-level.result sized ∙ c.stop-level.ensures.value) in
+    let is = c.pick_into-count.ensures.after ∙ ap (λ z. items_at z c.args.items.now) (to_z-of_z w32 c.stop-level.result sized ∙ c.stop-level.ensures.value) in
     record {
       few = copied_few copied n (omega arith) (omega arith);
       fits = copy_fits here copied n is (c.requires.fits d.stop);
@@ -31,9 +31,9 @@ returns g c =
     let d = deal_of c.args.auction.now.row in
     let awards = g.S.ShareRule.awards c.args.rule.now in
     let here = items_at d.stop c.args.items.now in
-    let copied = c.pick-into-count.new.into in
-    let n = c.pick-into-count.result in
+    let copied = c.pick_into-count.new.into in
+    let n = c.pick_into-count.result in
     let sized : SFits w32 c.stop-level.result = search rules in
-    let is = c.pick-into-count.ensures.after ∙ ap (λ z. items_at z c.args.items.now) (to_z-of_z w32 c.stop-level.result sized ∙ c.stop-level.ensures.value) in
+    let is = c.pick_into-count.ensures.after ∙ ap (λ z. items_at z c.args.items.now) (to_z-of_z w32 c.stop-level.result sized ∙ c.stop-level.ensures.value) in
     one_worked d _ (stop_in awards d here c.args.progress.left) (sym (ne_eqb _ _ c.if-progress-eq0.false)) _ _ _ _ _
-    (copy_filled here copied n is (λ xs. stop_in awards d xs c.args.progress.left) d _ _ _ _ _ c.work-stop.ensures)
+    (copy_filled here copied n is (λ xs. stop_in awards d xs c.args.progress.left) d _ _ _ _ _ c.work_stop.ensures)
