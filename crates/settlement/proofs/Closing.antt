@@ -1,5 +1,5 @@
 -- A settlement from its contra items on.
-use Rattle.std.proofs.Common.{◌≡◌, ℕ, ◌+◌, ◌-◌, ◌<◌, ◌≤◌, Bool, true, false, cond, ◌&&◌, leb, List, [], ◌∷◌, ◌++◌, map, length, take, drop, sym, refl, ap, ◌∙◌, subst, inl, inr, arith, w32, SFits}
+use Rattle.std.proofs.Common.{◌≡◌, ℕ, ◌-◌, ◌≤◌, true, ◌&&◌, leb, List, ◌++◌, length, take, drop, sym, refl, ap, ◌∙◌, subst, inl, inr, arith, w32, SFits}
 use Rattle.std.proofs.lemmas.List.{drop_at, length-map, take_at}
 use Rattle.std.proofs.lemmas.Bool.{and_from, cases_lt, cond-false, cond-true, le-leb, lt-leb}
 use Rattle.std.specs.List.{AllByRecursion}
@@ -14,7 +14,7 @@ use Rattle.contra.specs.Answers.{contra_said}
 use Rattle.contra.specs.Counting.{contra_of}
 use Rattle.contra.specs.Laws.{Contra}
 use Rattle.contra.specs.Turns.{ItemTurns}
-use Rattle.allocation.proofs.Outcoming.{fills_most, fills_turn, groups_at, items_most, outcome, stop_turns}
+use Rattle.allocation.proofs.Outcoming.{fills_most, fills_turn, groups_at, outcome, stop_turns}
 use Rattle.allocation.specs.Deals.{deal_of}
 use Rattle.allocation.specs.Fillings.{fills_of}
 use Rattle.allocation.specs.Laws.{Shares}
@@ -23,7 +23,6 @@ use Rattle.allocation.specs.Shown.{shown_fill, shown_item}
 use Rattle.settlement.specs.Settles.{over, settle_said}
 use Rattle.settlement.specs.Shows.{FillTurns}
 use Rattle.settlement.specs.Steps.{LevelsFit}
-use Rattle.settlement.specs.Writes.{written}
 use Rattle.settlement.specs.declared.counts.Counts.{Counts}
 
 -- an answered call had room, and answers the count

@@ -1,5 +1,5 @@
 -- Dealing awards to groups, item by item.
-use Rattle.std.proofs.Common.{◌≡◌, ℕ, ◌+◌, ◌-◌, ◌<◌, ◌≤◌, min, Bool, true, false, cond, List, [], ◌∷◌, ◌++◌, length, get_or, take, drop, sym, refl, ap, ◌∙◌, arith}
+use Rattle.std.proofs.Common.{◌≡◌, ℕ, ◌+◌, ◌-◌, ◌<◌, ◌≤◌, Bool, true, false, cond, List, [], ◌∷◌, ◌++◌, length, get_or, take, drop, sym, refl, ap, ◌∙◌, arith}
 use Rattle.std.proofs.lemmas.List.{append_assoc, drop_more}
 use Rattle.std.specs.List.{flat_map}
 use Rattle.ranked.specs.declared.contra.ContraItem.{ContraItem}
@@ -9,7 +9,7 @@ use Rattle.allocation.proofs.Giving.{come_given}
 use Rattle.allocation.proofs.Sums.{total_append, total_none}
 use Rattle.allocation.specs.Deals.{Deal}
 use Rattle.allocation.specs.Fillings.{part_fill, part_fills, unless_empty}
-use Rattle.allocation.specs.Parts.{Part, come, counts, dealt, given_in, group_of, leaders_in, total}
+use Rattle.allocation.specs.Parts.{Part, come, dealt, given_in, group_of, leaders_in, total}
 use Rattle.settlement.specs.Groups.{parts_at}
 use Rattle.settlement.specs.Writes.{Filled, written}
 use Rattle.settlement.specs.declared.progress.Progress.{Progress}

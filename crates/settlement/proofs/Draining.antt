@@ -1,5 +1,5 @@
 -- What was drawn from each item, item by item.
-use Rattle.std.proofs.Common.{◌≡◌, ℕ, ◌+◌, ◌-◌, ◌<◌, ◌≤◌, min, List, [], ◌∷◌, ◌++◌, length, get_or, take, drop, sum_by, sym, refl, ap, ◌∙◌, subst, arith}
+use Rattle.std.proofs.Common.{◌≡◌, ℕ, ◌+◌, ◌-◌, ◌<◌, ◌≤◌, min, List, [], ◌∷◌, ◌++◌, length, get_or, drop, sum_by, sym, refl, ap, ◌∙◌, subst, arith}
 use Rattle.std.proofs.lemmas.List.Elements.{AllZip-get_or, length_all_zip}
 use Rattle.std.proofs.lemmas.List.{drop_all, drop_more}
 use Rattle.std.proofs.lemmas.List.Sums.{sum_by-cons}
@@ -10,7 +10,7 @@ use Rattle.ranked.specs.declared.contra.ContraItem.{ContraItem}
 use Rattle.ranked.specs.declared.fill.Fill.{Fill}
 use Rattle.allocation.specs.Deals.{Deal}
 use Rattle.allocation.specs.Fillings.{part_fill, part_fills, unless_empty}
-use Rattle.allocation.specs.Parts.{Part, come, counts, given_in, part_of, total}
+use Rattle.allocation.specs.Parts.{come, counts, given_in, part_of, total}
 use Rattle.settlement.specs.Writes.{Filled, written}
 use Rattle.settlement.specs.Draws.{Drained, drained}
 

@@ -2,7 +2,7 @@
 use Rattle.std.proofs.Common.{◌≡◌, ℕ, ◌+◌, ◌-◌, ◌<◌, ◌≤◌, Bool, true, false, cond, List, [], ◌∷◌, ◌++◌, map, length, get_or, take, drop, set, sym, refl, ap, ◌∙◌, arith}
 use Rattle.std.proofs.lemmas.List.{append_assoc, append-nil, at_drop_all, at_drop_more, length-map, length-take-le, take_more_set}
 use Rattle.ranked.specs.declared.contra.ContraItem.{ContraItem}
-use Rattle.contra.specs.Kinds.{firsts, same_user, some}
+use Rattle.contra.specs.Kinds.{same_user, some}
 use Rattle.allocation.specs.Parts.{counts, group_of, group_size, group_sizes, leaders_in, total}
 use Rattle.settlement.specs.Groups.{adds, sizes_at}
 use Rattle.settlement.proofs.Seeing.{firsts_from, is_first, no_more_firsts, not_first}

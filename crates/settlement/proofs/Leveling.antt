@@ -1,6 +1,6 @@
 -- One level, step by step.
-use Rattle.std.proofs.Common.{◌≡◌, ℕ, ◌+◌, ◌-◌, ◌<◌, ◌≤◌, min, Bool, true, false, cond, List, [], ◌∷◌, ◌++◌, length, get_or, take, drop, ℤ, sum_by, filter, sym, refl, ap, ◌∙◌, subst, arith}
-use Rattle.std.proofs.lemmas.List.{append_assoc, length-append, length-take-le, take_all}
+use Rattle.std.proofs.Common.{◌≡◌, ℕ, ◌+◌, ◌-◌, ◌≤◌, min, List, [], ◌∷◌, ◌++◌, length, take, ℤ, sum_by, sym, refl, ap, ◌∙◌, subst, arith}
+use Rattle.std.proofs.lemmas.List.{append_assoc, length-append, length-take-le}
 use Rattle.std.proofs.lemmas.List.Sums.{sum_by-cons}
 use Rattle.ranked.specs.declared.contra.ContraItem.{ContraItem}
 use Rattle.ranked.specs.declared.fill.Fill.{Fill}
@@ -10,7 +10,7 @@ use Rattle.allocation.proofs.Sums.{total_append}
 use Rattle.allocation.specs.Deals.{Deal}
 use Rattle.allocation.specs.Fillings.{level_fills, own_fill, part_fills, unless_empty}
 use Rattle.allocation.specs.Laws.{Shares}
-use Rattle.allocation.specs.Levels.{Level, below_in, guarantee_in, matched_in, spent_at, stop_in, stop_parts}
+use Rattle.allocation.specs.Levels.{below_in, guarantee_in, matched_in, spent_at, stop_in, stop_parts}
 use Rattle.auction.specs.Sizes.{guarantee_of}
 use Rattle.allocation.specs.Parts.{Part, after_customers, counts, customers_of, given_in, leaders_in, others_in, parts_in, shared, total}
 use Rattle.settlement.specs.Groups.{GroupsFit}

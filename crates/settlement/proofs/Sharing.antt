@@ -1,8 +1,8 @@
 -- The awards that a share rule writes for the groups.
-use Rattle.std.proofs.Common.{◌≡◌, ℕ, ◌+◌, ◌-◌, ◌<◌, ◌≤◌, min, Bool, true, false, cond, ◌&&◌, leb, List, [], ◌∷◌, ◌++◌, map, length, take, drop, is_ok, Ok, Err, Result, sym, refl, ap, ◌∙◌, subst, arith}
+use Rattle.std.proofs.Common.{◌≡◌, ℕ, ◌+◌, ◌-◌, ◌≤◌, min, true, cond, leb, List, [], ◌∷◌, ◌++◌, map, length, take, drop, is_ok, Ok, Err, Result, sym, refl, ap, ◌∙◌, arith}
 use Rattle.std.proofs.lemmas.List.{length-map, take_at}
 use Rattle.std.proofs.lemmas.Bool.{and_from, cond-true, le-leb}
-use Rattle.terms.specs.Refusals.{Said, answered, said}
+use Rattle.terms.specs.Refusals.{answered, said}
 use Rattle.terms.specs.declared.refusal.Refusal.{Refusal}
 use Rattle.ranked.specs.declared.contra.ContraItem.{ContraItem}
 use Rattle.ranked.specs.declared.fill.Fill.{Fill}

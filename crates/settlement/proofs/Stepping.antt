@@ -1,21 +1,21 @@
 -- The levels, item by item.
-use Rattle.std.proofs.Common.{◌≡◌, ℕ, ◌+◌, ◌-◌, ◌<◌, ◌≤◌, Bool, true, false, cond, not, ◌&&◌, ◌||◌, eqb, ltb, List, [], ◌∷◌, ◌++◌, length, get_or, take, drop, ℤ, filter, sym, refl, ap, ◌∙◌, subst, inl, inr, arith}
-use Rattle.std.proofs.lemmas.List.{append-nil, length-append}
+use Rattle.std.proofs.Common.{◌≡◌, ℕ, ◌+◌, ◌-◌, ◌<◌, ◌≤◌, Bool, true, false, cond, eqb, ltb, List, [], ◌∷◌, ◌++◌, length, get_or, take, drop, filter, sym, refl, ap, ◌∙◌, subst, inl, inr, arith}
+use Rattle.std.proofs.lemmas.List.{append-nil}
 use Rattle.std.proofs.lemmas.Bool.{cases_lt, cond-false, cond-true, eq-eqb, eqb-false, eqb-true, le-ltb, lt-ltb, ne_eqb}
 use Rattle.std.specs.List.{flat_map}
 use Rattle.ranked.specs.declared.contra.ContraItem.{ContraItem}
 use Rattle.ranked.specs.declared.fill.Fill.{Fill}
-use Rattle.contra.specs.Kinds.{firsts, same_level, some}
+use Rattle.contra.specs.Kinds.{same_level, some}
 use Rattle.allocation.proofs.Sums.{total_none, total_step}
 use Rattle.allocation.specs.Deals.{Deal}
 use Rattle.allocation.specs.Fillings.{fills_of, level_fills}
-use Rattle.allocation.specs.Levels.{Level, beginnings, below_in, below_stop, items_at, levels_from, spent_at, stop_in}
+use Rattle.allocation.specs.Levels.{Level, beginnings, below_in, below_stop, items_at, levels_from, spent_at}
 use Rattle.allocation.specs.Parts.{others_in, total}
 use Rattle.settlement.specs.Groups.{GroupsFit}
 use Rattle.settlement.specs.Writes.{Filled, written}
 use Rattle.settlement.specs.declared.progress.Progress.{Progress}
-use Rattle.settlement.specs.Steps.{begins, levels_at, passes, stop_at}
-use Rattle.settlement.proofs.Seeing.{firsts_from, is_first, no_more_firsts, not_first}
+use Rattle.settlement.specs.Steps.{levels_at, passes, stop_at}
+use Rattle.settlement.proofs.Seeing.{is_first, no_more_firsts, not_first}
 use Rattle.settlement.proofs.Dealing.{joined_append}
 use Rattle.settlement.proofs.Writing.{step_count, step_room, step_same, written_none}
 

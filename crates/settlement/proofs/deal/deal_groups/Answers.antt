@@ -1,4 +1,4 @@
-use Rattle.std.proofs.Common.{◌≡◌, ◌+◌, ◌-◌, ◌≤◌, length, take, refl, ap, ◌∙◌, arith}
+use Rattle.std.proofs.Common.{◌≡◌, ◌-◌, take, refl, ap, arith}
 use Rattle.allocation.specs.Deals.{deal_of}
 use Rattle.settlement.proofs.Dealing.{all_groups, dealt_all, turn_count, turn_each, turn_enough, turn_left, turn_room, turn_same, turn_there}
 use Rattle.settlement.proofs.deal.deal_groups.Goals as goal

@@ -1,7 +1,5 @@
-use Rattle.std.proofs.Common.{◌+◌, ◌≤◌, length, refl, arith}
+use Rattle.std.proofs.Common.{refl, arith}
 use Rattle.allocation.specs.Deals.{deal_of}
-use Rattle.allocation.specs.Fillings.{part_fills}
-use Rattle.settlement.specs.Draws.{drained}
 use Rattle.settlement.proofs.Draining.{drain_after, drain_fills, drain_less, drain_none}
 use Rattle.settlement.proofs.Writing.{end_count, end_same, step_count, step_room, step_same}
 use Rattle.settlement.proofs.fill.write_drained.Goals as goal

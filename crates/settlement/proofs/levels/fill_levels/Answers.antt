@@ -1,4 +1,4 @@
-use Rattle.std.proofs.Common.{◌≡◌, ◌+◌, ◌-◌, ◌≤◌, length, take, refl, ap, ◌∙◌, arith}
+use Rattle.std.proofs.Common.{◌≡◌, ◌+◌, ◌-◌, length, take, ap, arith}
 use Rattle.allocation.specs.Deals.{deal_of}
 use Rattle.settlement.specs.Writes.{written}
 use Rattle.settlement.proofs.Stepping.{at_count, at_left, at_room, at_same, last_after, last_count, last_room, start_is}

@@ -1,4 +1,3 @@
-use Rattle.std.proofs.Common.{sym, arith}
 use Rattle.settlement.proofs.Writing.{empty_count, empty_fill, one_count, one_fill}
 use Rattle.settlement.proofs.write.write_fill.Goals as goal
 
