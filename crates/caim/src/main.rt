@@ -21,6 +21,7 @@ use script::line::{MarketKind, ShareKind, Statement, statement_of};
 use script::word::Word;
 use session::state::Session;
 use std::io::Read;
+use std::process::ExitCode;
 use std::{env, fs};
 
 // A place in the text: the byte at which a line begins, and the line's number.
@@ -227,9 +228,10 @@ fn run(rt: &HostRuntime) -> anyhow::Result<Ending> {
     }
 }
 
-fn main(rt: HostRuntime) -> anyhow::Result<()> {
+// A line that cannot be read has been told on standard error: the status says that it was there.
+fn main(rt: HostRuntime) -> anyhow::Result<ExitCode> {
     match run(&rt)? {
-        Ending::Read => Ok(()),
-        Ending::Unreadable => Err(anyhow!("unreadable")),
+        Ending::Read => Ok(ExitCode::SUCCESS),
+        Ending::Unreadable => Ok(ExitCode::FAILURE),
     }
 }

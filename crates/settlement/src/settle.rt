@@ -59,7 +59,7 @@ pub fn settle<S: ShareRule>(
     contra: &mut [ContraItem],
     fills: &mut [Fill],
 ) -> Result<Counts, Refusal<Infallible>>
-    ensures answer { said result ≡ settle_said (length fills.entry.now) (length contra.old) (record { fills = length (auction_fills (S.ShareRule.awards rule.now) auction.now.row (entries orders.now) (entries responses.now)); items = length (contra_of auction.now.row (entries orders.now) (entries responses.now)) }) }
+    ensures answer { said result ≡ settle_said (length fills.old) (length contra.old) (record { fills = length (auction_fills (S.ShareRule.awards rule.now) auction.now.row (entries orders.now) (entries responses.now)); items = length (contra_of auction.now.row (entries orders.now) (entries responses.now)) }) }
     ensures contra { contra.new ≡ (if is_ok result then over (shown_items auction.now.row (contra_of auction.now.row (entries orders.now) (entries responses.now))) contra.old else contra.old) }
     ensures fills { fills.new ≡ (if is_ok result then over (shown_fills auction.now.row (auction_fills (S.ShareRule.awards rule.now) auction.now.row (entries orders.now) (entries responses.now))) fills.old else fills.old) }
     ensures law { IfOk result (λ n. Outcome (S.ShareRule.awards rule.now) auction.now.row (entries orders.now) (entries responses.now) (take n.items contra.new) (take n.fills fills.new)) }
