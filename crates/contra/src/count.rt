@@ -52,7 +52,7 @@ fn with_counted(item: &ContraItem, counted: u32) -> ContraItem
 }
 
 // Counts the items, from the last to the first, so that those in front still have their sizes.
-pub fn count_all(items: &mut [ContraItem], size: u32)
+pub(crate) fn count_all(items: &mut [ContraItem], size: u32)
     ensures { items.new ≡ counted_from size [] items.old }
 {
     for i in (0..items.len()).rev() {

@@ -47,7 +47,7 @@ fn gather<T: Interest>(list: &mut Ordered<'_, ContraItem>, auction: &Auction, en
 
 // Ranks all contra items of an auction in the first places of the list, which has room for them,
 // and answers how many they are.
-pub fn rank(
+pub(crate) fn rank(
     auction: &Auction,
     orders: &[Order],
     responses: &[Response],

@@ -80,7 +80,7 @@ fn deal_at(
 }
 
 // Deals to every group its award, where there is one for each and q contracts cover them.
-pub fn deal_groups(
+pub(crate) fn deal_groups(
     auction: &Auction,
     others: &[ContraItem],
     awards: &[u32],

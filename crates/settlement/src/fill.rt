@@ -82,7 +82,7 @@ fn draw_and_write(
 }
 
 // Fills the picked items in turn with up to q contracts. What is left of q is answered.
-pub fn fill_in_turn(
+pub(crate) fn fill_in_turn(
     auction: &Auction,
     items: &[ContraItem],
     pick: Pick,

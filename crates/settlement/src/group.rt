@@ -51,7 +51,7 @@ fn put_size(
 }
 
 // Writes the size of each group, and answers how many groups there are.
-pub fn group_sizes(others: &[ContraItem], sizes: &mut [u32]) -> usize
+pub(crate) fn group_sizes(others: &[ContraItem], sizes: &mut [u32]) -> usize
     requires fits { GroupsFit others.now }
     requires room { length others.now ≤ length sizes.old }
     ensures count { result ≡ length (leaders_in others.now) }

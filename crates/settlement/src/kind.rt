@@ -22,7 +22,7 @@ impl Kind {
     }
 
     // Whether one of the earlier items is of this item's kind.
-    pub fn was_seen(self, item: &ContraItem, earlier: &[ContraItem]) -> bool
+    pub(crate) fn was_seen(self, item: &ContraItem, earlier: &[ContraItem]) -> bool
         ensures { result ≡ some (same_by self item.now) earlier.now }
     {
         for other in earlier {

@@ -89,7 +89,7 @@ fn fill_others<S: ShareRule>(
 
 // Works a level below the stop, which this item begins: the Initiating Order's match, customers by
 // number, then groups. The Initiating Order's fill is written last.
-pub fn work_below<S: ShareRule>(
+pub(crate) fn work_below<S: ShareRule>(
     auction: &Auction,
     rule: &S,
     first: &ContraItem,
@@ -130,7 +130,7 @@ pub fn work_below<S: ShareRule>(
 
 // Works the stop: customers by number, the Initiating Order's guarantee, groups, and the rest to
 // the Initiating Order. Nothing is left then.
-pub fn work_stop<S: ShareRule>(
+pub(crate) fn work_stop<S: ShareRule>(
     auction: &Auction,
     rule: &S,
     here: &[ContraItem],

@@ -81,7 +81,7 @@ fn work_last<S: ShareRule>(
 }
 
 // Fills an auction from its ranked and counted items, and answers how many fills it wrote.
-pub fn fill_levels<S: ShareRule>(
+pub(crate) fn fill_levels<S: ShareRule>(
     auction: &Auction,
     rule: &S,
     items: &[ContraItem],

@@ -41,7 +41,7 @@ fn keep(pick: &Pick, item: &ContraItem, into: &mut [ContraItem], count: usize) -
 }
 
 // Copies the items that are picked into the first places of `into`, and answers how many they are.
-pub fn pick_into(items: &[ContraItem], pick: Pick, into: &mut [ContraItem]) -> usize
+pub(crate) fn pick_into(items: &[ContraItem], pick: Pick, into: &mut [ContraItem]) -> usize
     requires { length items.now ≤ length into.old }
     ensures few { result ≤ length items.now }
     ensures after { take result into.new ≡ filter (picks pick) items.now }

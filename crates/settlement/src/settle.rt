@@ -48,6 +48,9 @@ fn fill_and_show<S: ShareRule>(
     count
 }
 
+// So many fills a settlement may write: two for each of 128 items, and one at the stop.
+const MOST_FILLS: usize = 257;
+
 // Settles an auction against the orders and responses that rest, by a share rule. Writes the contra
 // items and the fills from the front of their lists, in true prices, and answers how many of each
 // it wrote. A fill list of fewer than 257 places, or a contra list of fewer than 128, is refused.
@@ -64,7 +67,7 @@ pub fn settle<S: ShareRule>(
     ensures fills { fills.new ≡ (if is_ok result then over (shown_fills auction.now.row (auction_fills (S.ShareRule.awards rule.now) auction.now.row (entries orders.now) (entries responses.now))) fills.old else fills.old) }
     ensures law { IfOk result (λ n. Outcome (S.ShareRule.awards rule.now) auction.now.row (entries orders.now) (entries responses.now) (take n.items contra.new) (take n.fills fills.new)) }
 {
-    if fills.len() < 257 {
+    if fills.len() < MOST_FILLS {
         return Err(Refusal::Full);
     }
     let items = contra_items(auction, orders, responses, contra)?;

@@ -15,7 +15,7 @@ use ranked::fill::Fill;
 use share::rule::ShareRule;
 
 // Fills the groups of these items, which are no customers', with up to q contracts.
-pub fn fill_groups<S: ShareRule>(
+pub(crate) fn fill_groups<S: ShareRule>(
     auction: &Auction,
     rule: &S,
     others: &[ContraItem],

@@ -51,7 +51,7 @@ impl Shown for Fill {
 }
 
 // Shows every record in true prices.
-pub fn show_all<T: Shown + Copy>(side: Side, records: &mut [T])
+pub(crate) fn show_all<T: Shown + Copy>(side: Side, records: &mut [T])
     requires { AllByRecursion (T.Shown.turns side) records.old }
     ensures { records.new ≡ map (T.Shown.shown side) records.old }
 {

@@ -17,7 +17,7 @@ fill_and_show-fills-requires g c =
     let os = entries c.args.orders.now in
     let rs = entries c.args.responses.now in
     let e = c.in_ok-items.ensures in
-    let long : 257 ≤ length c.args.fills.now = omega (arith, c.if-fills-lt257.false) in
+    let long : 257 ≤ length c.args.fills.now = omega (arith, c.if-fills-lt-MOST_FILLS.false) in
     record {
       few = close_few awards shares a ok most os rs c.args.contra.now c.contra_items.new.list c.in_ok-items.items e.answer e.after e.law e.turns stop;
       fits = close_fits awards shares a ok most os rs c.args.contra.now c.contra_items.new.list c.in_ok-items.items e.answer e.after e.law e.turns stop;
@@ -38,7 +38,7 @@ returns g c =
     let os = entries c.args.orders.now in
     let rs = entries c.args.responses.now in
     let e = c.in_ok-items.ensures in
-    let long : 257 ≤ length c.args.fills.now = omega (arith, c.if-fills-lt257.false) in
+    let long : 257 ≤ length c.args.fills.now = omega (arith, c.if-fills-lt-MOST_FILLS.false) in
     let f = c.fill_and_show-fills.ensures in
     record {
       answer = close_answer awards shares a ok most os rs c.args.contra.now c.contra_items.new.list c.in_ok-items.items e.answer e.after e.law e.turns stop c.args.fills.now c.fill_and_show-fills.new.fills c.fill_and_show-fills.result c.fill_and_show-fills.new.items long f.count f.items f.fills;
