@@ -1,5 +1,5 @@
 // Pro rata: gives each size its part of the quantity, rounded down, and then one more each in rank order.
-ghost use Rattle.std.specs.Prelude.{◌≡◌, ◌+◌, ◌-◌, ◌^◌, ◌<◌, ◌≤◌, min, ◌++◌, length, drop};
+ghost use Rattle.std.specs.Prelude.{◌≡◌, ◌+◌, ◌-◌, ◌^◌, ◌<◌, ◌≤◌, min, ◌++◌, length, drop, sum, sum_by};
 ghost use Rattle.share.specs.Awards.{total};
 ghost use Rattle.share.specs.Proration.{part, parts, one_more, dealt, pro_rata};
 ghost use Rattle.share.specs.Prorating.{pro_rata_each, pro_rata_within, pro_rata_spent};
@@ -11,17 +11,6 @@ use terms::refusal::Refusal;
 
 #[derive(Clone, Copy)]
 pub struct ProRata;
-
-fn sum_of(sizes: &[u32]) -> u32
-    requires { total sizes.now < 2 ^ 32 }
-    ensures { result ≡ total sizes.now }
-{
-    let mut sum = 0;
-    for size in sizes {
-        sum += *size;
-    }
-    sum
-}
 
 // size × q / sum, rounded down. The product of two numbers of 32 bits fits 64.
 fn rounded_down(size: u32, q: u32, sum: u32) -> u64
@@ -52,14 +41,11 @@ fn one_more(size: u32, left: u32) -> u32
 // What the parts leave over.
 fn left_over(sizes: &[u32], q: u32, sum: u32) -> u32
     requires below { q < sum }
-    requires within { total (parts sum q sizes.now) ≤ q }
-    ensures { result ≡ q - total (parts sum q sizes.now) }
+    requires within { sum_by (part sum q) sizes.now ≤ q }
+    ensures { result ≡ q - sum_by (part sum q) sizes.now }
 {
-    let mut left = q;
-    for size in sizes {
-        left -= part_of(*size, q, sum);
-    }
-    left
+    let given: u32 = sizes.iter().map(|size| part_of(*size, q, sum)).sum();
+    q - given
 }
 
 // Gives each size its part and, while some is left over, one more.
@@ -69,20 +55,20 @@ fn deal(sizes: &[u32], q: u32, sum: u32, over: u32, given: &mut [u32])
     ensures { given.new ≡ dealt sum q over sizes.now ++ drop (length sizes.now) given.old }
 {
     let mut left = over;
-    for i in 0..sizes.len() {
-        let more = one_more(sizes[i], left);
-        given[i] = part_of(sizes[i], q, sum) + more;
+    for (place, &size) in sizes.iter().enumerate() {
+        let more = one_more(size, left);
+        given[place] = part_of(size, q, sum) + more;
         left -= more;
     }
 }
 
 // Gives each its whole size if the quantity covers the sum, and else its part and what is left over.
 fn prorate(sizes: &[u32], q: u32, given: &mut [u32])
-    requires few { total sizes.now < 2 ^ 32 }
+    requires few { sum sizes.now < 2 ^ 32 }
     requires room { length sizes.now ≤ length given.old }
     ensures { given.new ≡ pro_rata sizes.now q ++ drop (length sizes.now) given.old }
 {
-    let sum = sum_of(sizes);
+    let sum = sizes.iter().sum();
     if sum <= q {
         given[0..sizes.len()].copy_from_slice(sizes);
         return;
