@@ -49,10 +49,10 @@ in_range : (c : ℕ) (b : Bool) → range_fault c b ≡ None → component c ≡
 in_range c b e = grind (arith, nat_tests)
 
 module _ (b b' : Board) (n : BoardNotice) (c : ℕ) (s : Side) (t : Option Top) (f : t ≡ heard n) (g : b' ≡ with_top b c s t) (h : board_fault n ≡ None) (k : length (side_of b s) ≡ 16) where
-  pub set_shows : (p : ℕ) (u : Bool) → n ≡ Set c s p u → Shows b n b'
+  pub set_shows : (p : ℕ) (u : Bool) → n ≡ Set (record { component = c; side = s; price = p; customer = u }) → Shows b n b'
   set_shows p u e = subst (λ x. Shows b x b') (sym e)
       (λ d v. ap (λ x. board_top x d v) (g ∙ ap (with_top b c s) (f ∙ ap heard e))
-      ∙ shown b c s (heard (Set c s p u)) (in_range c (is_some (price_of p)) (ap board_fault (sym e) ∙ h)) k d v)
+      ∙ shown b c s (heard (Set (record { component = c; side = s; price = p; customer = u }))) (in_range c (is_some (price_of p)) (ap board_fault (sym e) ∙ h)) k d v)
 
   pub clear_shows : n ≡ Clear c s → Shows b n b'
   clear_shows e = subst (λ x. Shows b x b') (sym e)

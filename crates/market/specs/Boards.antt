@@ -32,21 +32,21 @@ abbrev pub range_fault : ℕ → Bool → Option Fault
 range_fault c priced = cond (component c) (cond priced None (out_of_range c)) (out_of_range 0)
 
 abbrev pub board_fault : BoardNotice → Option Fault
-board_fault (Set c s p u) = range_fault c (is_some (price_of p))
+board_fault (Set q) = range_fault q.component (is_some (price_of q.price))
 board_fault (Clear c s) = range_fault c true
 
 -- the top that a notice leaves where it speaks of
 abbrev pub heard : BoardNotice → Option Top
-heard (Set c s p u) = top_of p u
+heard (Set q) = top_of q.price q.customer
 heard (Clear c s) = None
 
 -- the notice is about this component and side
 abbrev pub speaks_of : BoardNotice → ℕ → Side → Bool
-speaks_of (Set c s p u) d t = c == d && same_side s t
+speaks_of (Set q) d t = q.component == d && same_side q.side t
 speaks_of (Clear c s) d t = c == d && same_side s t
 
 abbrev pub board_after : Board → BoardNotice → Board
-board_after b (Set c s p u) = with_top b c s (top_of p u)
+board_after b (Set q) = with_top b q.component q.side (top_of q.price q.customer)
 board_after b (Clear c s) = with_top b c s None
 
 -- a board is changed where the notice speaks of, and nowhere else

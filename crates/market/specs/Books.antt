@@ -12,6 +12,7 @@ use Rattle.market.specs.declared.book.BookNotice.{BookNotice}
 use Rattle.market.specs.declared.book.BookNotice.TheVariants.{Add, Withdraw}
 use Rattle.market.specs.declared.book.BookOrder.{BookOrder}
 use Rattle.market.specs.declared.fault.Fault.{Fault}
+use Rattle.market.specs.declared.quoted.Quoted.{Quoted}
 use Rattle.market.specs.declared.fault.Cause.{Cause}
 use Rattle.market.specs.declared.fault.Cause.TheVariants.{OutOfRange, BookFull, OrderNumber}
 
@@ -65,15 +66,15 @@ abbrev pub withdraw_fault : List BookOrder → ℕ → Option Fault
 withdraw_fault os n = cond (range.number n) (cond (holds n os) None (why 0 OrderNumber)) (why 0 OutOfRange)
 
 abbrev pub book_fault : List BookOrder → BookNotice → Option Fault
-book_fault os (Add n c s p u) = add_fault os n c (is_some (top_of p u))
+book_fault os (Add n q) = add_fault os n q.component (is_some (top_of q.price q.customer))
 book_fault os (Withdraw n) = withdraw_fault os n
 
 -- the order that a notice adds
-abbrev pub order_of : ℕ → ℕ → Side → Option Top → Option BookOrder
-order_of n c s t = option_map (λ (x : Top). record { number = n; component = c; side = s; top = x }) t
+abbrev pub order_of : ℕ → Quoted → Option BookOrder
+order_of n q = option_map (λ (x : Top). record { number = n; component = q.component; side = q.side; top = x }) (top_of q.price q.customer)
 
 abbrev pub book_after : List BookOrder → BookNotice → List BookOrder
-book_after os (Add n c s p u) = os ++ option_to_list (order_of n c s (top_of p u))
+book_after os (Add n q) = os ++ option_to_list (order_of n q)
 book_after os (Withdraw n) = remove os (place_of n os)
 
 -- one of the orders passes the test

@@ -1,4 +1,5 @@
 // A board: one top for each component and side, set or cleared by each notice.
+use crate::quoted::Quoted;
 use terms::side::Side;
 use terms::top::Top;
 
@@ -6,16 +7,8 @@ mod kept;
 
 #[derive(Clone, Copy)]
 pub enum BoardNotice {
-    Set {
-        component: u32,
-        side: Side,
-        price: u32,
-        customer: bool,
-    },
-    Clear {
-        component: u32,
-        side: Side,
-    },
+    Set(Quoted),
+    Clear { component: u32, side: Side },
 }
 
 #[derive(Clone, Copy)]

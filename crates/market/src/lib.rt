@@ -7,3 +7,4 @@ pub mod book;
 pub mod fault;
 pub mod interface;
 pub mod quote;
+pub mod quoted;

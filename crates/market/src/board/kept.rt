@@ -31,11 +31,7 @@ impl BoardNotice {
         ensures { result ≡ board_fault self.now }
     {
         let (component, priced) = match self {
-            BoardNotice::Set {
-                component,
-                price,
-                ..
-            } => (*component, Price::new(*price).is_some()),
+            BoardNotice::Set(quoted) => (quoted.component, Price::new(quoted.price).is_some()),
             BoardNotice::Clear { component, .. } => (*component, true),
         };
         if component < 1 || component > 16 {
@@ -95,11 +91,7 @@ impl BoardNotice {
         ensures { result ≡ heard self.now }
     {
         match self {
-            BoardNotice::Set {
-                price,
-                customer,
-                ..
-            } => Top::new(*price, *customer),
+            BoardNotice::Set(quoted) => quoted.top(),
             BoardNotice::Clear { .. } => None,
         }
     }
@@ -109,11 +101,7 @@ impl BoardNotice {
         ensures { result ≡ speaks_of self.now component side }
     {
         match self {
-            BoardNotice::Set {
-                component: c,
-                side: s,
-                ..
-            } => *c == component && *s == side,
+            BoardNotice::Set(quoted) => quoted.component == component && quoted.side == side,
             BoardNotice::Clear {
                 component: c,
                 side: s,
@@ -163,11 +151,7 @@ impl Market for Board {
         }
         let top = notice.heard();
         match notice {
-            BoardNotice::Set {
-                component,
-                side,
-                ..
-            } => self.set(*component, *side, top),
+            BoardNotice::Set(quoted) => self.set(quoted.component, quoted.side, top),
             BoardNotice::Clear { component, side } => self.set(*component, *side, top),
         }
         Ok(())

@@ -1,7 +1,6 @@
 ghost use Rattle.std.specs.Prelude.{◌≡◌, ℕ, ◌<◌, ◌≤◌, cond, List, [], ◌∷◌, ◌++◌, length, IfOk, None};
 ghost use Rattle.std.specs.List.{remove};
 ghost use Rattle.terms.specs.Tables.{entries};
-ghost use Rattle.terms.specs.Tops.{top_of};
 ghost use Rattle.market.specs.Meaning.{led};
 ghost use Rattle.market.specs.declared.book.BookOrder.{BookOrder};
 ghost use Rattle.market.specs.Books.{ShowsBest, add_fault, best_among, better, book_after, book_fault, book_top, joined, order_of, place_of, with_order, withdraw_fault};
@@ -10,6 +9,7 @@ ghost use Rattle.std.proofs.Common.{rules};
 use super::{BookNotice, BookOrder, DepthBook};
 use crate::fault::{Cause, Fault};
 use crate::interface::Market;
+use crate::quoted::Quoted;
 use std::alloc::{AllocError, Global};
 use terms::side::Side;
 use terms::table::Table;
@@ -117,25 +117,17 @@ fn top_without(component: u32, side: Side, orders: &[BookOrder], at: usize) -> O
     best_among(component, side, best, &orders[at + 1..orders.len()])
 }
 
-// The order with these values, if the price is in range.
-fn order_of(
-    number: u32,
-    component: u32,
-    side: Side,
-    price: u32,
-    customer: bool,
-) -> Option<BookOrder>
-    ensures { result ≡ order_of number component side (top_of price customer) }
+// The order with this number that a notice adds, if its price is in range.
+fn order_of(number: u32, quoted: &Quoted) -> Option<BookOrder>
+    ensures { result ≡ order_of number quoted.now }
 {
-    match Top::new(price, customer) {
-        Some(top) => Some(BookOrder {
-            number,
-            component,
-            side,
-            top,
-        }),
-        None => None,
-    }
+    let top = quoted.top()?;
+    Some(BookOrder {
+        number,
+        component: quoted.component,
+        side: quoted.side,
+        top,
+    })
 }
 
 // Why a book with these orders does not admit the notice, if that is so.
@@ -143,15 +135,9 @@ fn book_fault(orders: &[BookOrder], notice: &BookNotice) -> Option<Fault>
     ensures { result ≡ book_fault orders.now notice.now }
 {
     match notice {
-        BookNotice::Add {
-            number,
-            component,
-            price,
-            customer,
-            ..
-        } => {
-            let priced = Top::new(*price, *customer).is_some();
-            add_fault(orders, *number, *component, priced)
+        BookNotice::Add { number, quoted } => {
+            let priced = quoted.top().is_some();
+            add_fault(orders, *number, quoted.component, priced)
         }
         BookNotice::Withdraw { number } => withdraw_fault(orders, *number),
     }
@@ -249,14 +235,8 @@ impl Market for DepthBook {
             return Err(fault);
         }
         match notice {
-            BookNotice::Add {
-                number,
-                component,
-                side,
-                price,
-                customer,
-            } => {
-                if let Some(order) = order_of(*number, *component, *side, *price, *customer) {
+            BookNotice::Add { number, quoted } => {
+                if let Some(order) = order_of(*number, quoted) {
                     let _added = self.orders.add(order);
                 }
             }
@@ -277,13 +257,7 @@ fn foreseen(component: u32, side: Side, orders: &[BookOrder], notice: &BookNotic
         return top_among(component, side, orders);
     }
     match notice {
-        BookNotice::Add {
-            number,
-            component: c,
-            side: s,
-            price,
-            customer,
-        } => match order_of(*number, *c, *s, *price, *customer) {
+        BookNotice::Add { number, quoted } => match order_of(*number, quoted) {
             Some(order) => top_with(component, side, orders, &order),
             None => top_among(component, side, orders),
         },
