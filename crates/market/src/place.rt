@@ -17,7 +17,7 @@ impl Place {
         ensures known { is_some result ≡ in_range component }
         ensures value { IfSome result (λ p. (p.component ≡ component) × (p.side ≡ side)) }
     {
-        if component < 1 || component > 16 {
+        if !(1..=16).contains(&component) {
             return None;
         }
         Some(Place { component, side })

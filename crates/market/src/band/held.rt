@@ -64,6 +64,7 @@ impl<M: Market> Band<M> {
         ensures value { result ≡ lowest (would_move M.Market.top M.Market.fault M.Market.after (width_of self.old.width) (M.Market.model self.old.below) notice.now) 1 16 }
         ensures same { self.new ≡ self.old }
     {
+        // No `find`: its closure would borrow the market to change, and nothing is proved of what such a closure leaves.
         for component in 1..17 {
             if self.moves(notice, component) {
                 return Some(component);

@@ -81,7 +81,7 @@ fn place_of(number: u32, orders: &[BookOrder]) -> Option<usize>
 fn is_number(number: u32) -> bool
     ensures { result ≡ number_in_range number }
 {
-    1 <= number && number <= 999_999
+    (1..=999_999).contains(&number)
 }
 
 // What an admitted notice does to the orders.
