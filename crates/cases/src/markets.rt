@@ -3,6 +3,7 @@ use market::board::{Board, BoardNotice};
 use market::book::{BookNotice, DepthBook};
 use market::fault::Fault;
 use market::interface::Market;
+use market::quoted::Quoted;
 use std::test::Fail;
 use terms::side::Side;
 use terms::top::Top;
@@ -24,21 +25,23 @@ fn refused(r: Result<(), Fault>) -> Option<(u32, u32)> {
 }
 
 fn bid(component: u32, price: u32) -> BoardNotice {
-    BoardNotice::Set {
+    BoardNotice::Set(Quoted {
         component,
         side: Side::Buy,
         price,
         customer: false,
-    }
+    })
 }
 
 fn add(number: u32, side: Side, price: u32, customer: bool) -> BookNotice {
     BookNotice::Add {
         number,
-        component: 1,
-        side,
-        price,
-        customer,
+        quoted: Quoted {
+            component: 1,
+            side,
+            price,
+            customer,
+        },
     }
 }
 

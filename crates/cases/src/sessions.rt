@@ -1,5 +1,6 @@
 use market::book::{BookNotice, DepthBook};
 use market::interface::Market;
+use market::quoted::Quoted;
 use session::state::Session;
 use std::test::Fail;
 use terms::leg::Leg;
@@ -32,10 +33,12 @@ fn four_dear_legs_stay_in_range(rt: HostRuntime) -> Result<(), Fail> {
     for component in 1..5 {
         let notice = BookNotice::Add {
             number: component,
-            component,
-            side: Side::Buy,
-            price: 999999,
-            customer: component == 3,
+            quoted: Quoted {
+                component,
+                side: Side::Buy,
+                price: 999999,
+                customer: component == 3,
+            },
         };
         assert!(rt; session.notice(&notice).is_ok());
     }
