@@ -3,21 +3,10 @@ ghost use Rattle.std.specs.Prelude.{◌≡◌, ◌≤◌, length};
 ghost use Rattle.std.specs.List.{prefix_len};
 ghost use Rattle.console.specs.Texts.{in_line};
 
-fn goes_on(b: u8) -> bool
-    ensures { result ≡ in_line b }
-{
-    b != b'\n'
-}
-
 // How many bytes the first line has, without its line feed.
 pub fn line_len(text: &[u8]) -> usize
     ensures value { result ≡ prefix_len in_line text.now }
     ensures bound { result ≤ length text.now }
 {
-    for (n, b) in text.iter().enumerate() {
-        if !goes_on(*b) {
-            return n;
-        }
-    }
-    text.len()
+    text.iter().take_while(|b| **b != b'\n').count()
 }

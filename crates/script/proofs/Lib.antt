@@ -1,5 +1,5 @@
 pub mod Lookups
-pub mod Digits
+pub mod Numbers
 pub mod Runs
 pub mod Cutting
 pub mod Lexing

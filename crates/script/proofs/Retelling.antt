@@ -9,16 +9,16 @@ use Rattle.std.specs.List.{prefix_len}
 use Rattle.std.specs.Str.{all_ascii_digits}
 use Rattle.script.specs.declared.keyword.Keyword.{Keyword}
 use Rattle.script.specs.declared.keyword.Keyword.TheVariants as key
-use Rattle.script.specs.declared.lex.Span.{Span}
 use Rattle.script.specs.declared.lex.Unread.{Unread}
 use Rattle.script.specs.declared.lex.Unread.TheVariants.{Memory, Unknown}
 use Rattle.script.specs.declared.word.Word.{Word}
 use Rattle.script.specs.declared.word.Word.TheVariants.{Key, Comma, Number, Negative}
 use Rattle.script.specs.Keywords.{spelling}
-use Rattle.script.specs.Lexed.{AllFit, Gives, Reads, before_comment, gap, in_word, lexed, part, read_at, read_by, spanned, spans, spelling_len, uncommented, written_all}
+use Rattle.script.specs.Lexed.{AllFit, Gives, Reads, Span, before_comment, gap, in_word, lexed, part, read_at, read_by, spanned, spans, spelling_len, uncommented, written_all}
 use Rattle.script.specs.Words.{Fit, word_of, written}
 use Rattle.script.proofs.Cutting.{spelling_at}
-use Rattle.script.proofs.Writing.{own, word_back}
+use Rattle.script.proofs.Numbers.{own}
+use Rattle.script.proofs.Writing.{word_back}
 
 -- bytes of one word, none of them a `#`
 abbrev firm : List ℕ → Bool
@@ -225,6 +225,6 @@ retold (Ok v) line e ws h f =
 retold (Err Memory) line e ws h f = tt
 retold (Err (Unknown s)) line e ws h f =
     let g : lexed line ≡ Ok ws = ap lexed f ∙ words_back ws h in
-    let k : lexed line ≡ Err s = e.0 in
+    let k : lexed line ≡ Err e.at = e.stops in
     let z : ◌≡◌ {A = ℕ} 0 1 = cc in
     absurd (omega arith)

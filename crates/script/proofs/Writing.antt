@@ -2,7 +2,6 @@
 use Rattle.std.proofs.Common.{◌≡◌, ℕ, suc, ◌^◌, ◌<◌, ◌≤◌, true, false, ◌&&◌, eqb, ltb, leb, List, [], ◌∷◌, length, get_or, ℤ, pos, negsuc, Some, None, decimal, Option, sym, refl, ap, ◌∙◌, inl, inr, arith}
 use Rattle.std.proofs.lemmas.Fmt.{decimal_nonempty, digits_decimal, digits_value-decimal}
 use Rattle.std.proofs.lemmas.Slice.Eq.{bytes_eq-Decides}
-use Rattle.std.proofs.lemmas.Str.Parse.{IsNumeralModel, numerals_by_fold, tells_all_ascii_digits}
 use Rattle.std.proofs.lemmas.Bool.{and_from, cases_Bool, cond-false, cond-true, leb-true, lt-ltb, ne_eqb}
 use Rattle.std.proofs.lemmas.Bool.Decides.{nat_tests}
 use Rattle.std.specs.Option.{option_map}
@@ -14,9 +13,7 @@ use Rattle.script.specs.declared.word.Word.TheVariants.{Key, Comma, Number, Nega
 use Rattle.script.specs.Keywords.{keyword_in, keyword_of, keywords, spelling}
 use Rattle.script.specs.Words.{Fit, is_comma, minus, number_below, numeral_of, or_else, plain, read_on, word_of, writes_below, written}
 use Rattle.script.proofs.Lookups.{found}
-
-pub own : IsNumeralModel (λ ds. all_ascii_digits ds ≡ true) (read_on 0)
-own = numerals_by_fold _ tells_all_ascii_digits read_on (record { empty = λ n. refl; more = λ n c cs h. refl })
+use Rattle.script.proofs.Numbers.{own}
 
 read_below : (bound n : ℕ) → n < bound → bound ≤ 4294967296 → number_below bound (decimal n) ≡ Some n
 read_below bound n h k =

@@ -1,7 +1,10 @@
 // The keywords of the script, each with its spelling.
 ghost use Rattle.std.specs.Prelude.{◌≡◌, Some};
+ghost use Rattle.std.specs.Str.{bytes_eq};
 ghost use Rattle.script.specs.declared.keyword.Keyword.{Keyword};
 ghost use Rattle.script.specs.Keywords.{keyword_in, keyword_of, keywords, spelling};
+
+use std::fmt;
 
 #[derive(Clone, Copy, PartialEq, Eq, Debug)]
 pub enum Keyword {
@@ -136,16 +139,29 @@ impl Keyword {
     }
 }
 
+impl Keyword {
+    fn is_spelled(self, bytes: &[u8]) -> bool
+        ensures { result ≡ bytes_eq (spelling self) bytes.now }
+    {
+        self.spelling().as_bytes() == bytes
+    }
+}
+
+impl fmt::Display for Keyword {
+    ghost output = { λ k. Some (spelling k) };
+
+    fn fmt<W: fmt::Write>(&self, f: &mut fmt::Formatter<W>) -> fmt::Result {
+        f.write_str(self.spelling())
+    }
+}
+
 // The first of these keywords that is spelled so.
 fn spelled_among(some: &[Keyword], bytes: &[u8]) -> Option<Keyword>
     ensures { result ≡ keyword_in some.now bytes.now }
 {
-    for keyword in some {
-        if keyword.spelling().as_bytes() == bytes {
-            return Some(*keyword);
-        }
-    }
-    None
+    some.iter()
+        .find(|keyword| keyword.is_spelled(bytes))
+        .copied()
 }
 
 fn all_keywords() -> &'static [Keyword]
