@@ -15,9 +15,10 @@ use Rattle.terms.specs.Refusals.{Said, Told, answered, due, fault, nothing, refu
 use Rattle.terms.specs.declared.refusal.Refusal.{Refusal}
 use Rattle.std.specs.Result.{result_err}
 use Rattle.terms.specs.Synthetics.{synthetic_of}
+use Rattle.session.specs.declared.rows.Standing.TheVariants as standing
 use Rattle.session.specs.declared.state.Phase.{Phase}
 use Rattle.session.specs.declared.state.Phase.TheVariants.{Listing, Open, Closed}
-use Rattle.session.specs.Rows.{due_in, is_due, on_row, resting, running_in}
+use Rattle.session.specs.Rows.{counted, resting}
 use Rattle.session.specs.States.{State, with_market, with_phase, with_strategies}
 
 -- what a call says, and the state that it leaves
@@ -50,7 +51,7 @@ opened (Open p) = true
 opened Closed = false
 
 abbrev pub due_count : {Mo S : Type 0} → State Mo S → ℕ
-due_count s = count_by (on_row is_due) s.auctions
+due_count s = count_by (counted standing.Due) s.auctions
 
 -- rows 1 and 2, before the rows of a call that belongs to the phase or not
 abbrev pub unless_due : {Mo S F : Type 0} → State Mo S → Bool → Option (Told F) → Option (Told F)
@@ -94,8 +95,8 @@ abbrev pub reading_for : {Mo S : Type 0} → (Mo → ℕ → Side → Option Top
 reading_for top s n legs = record {
   sbb = synthetic_of (top s.market) Buy legs;
   sbo = synthetic_of (top s.market) Sell legs;
-  running = count_by (on_row (running_in n)) s.auctions;
-  due = count_by (on_row (due_in n)) s.auctions;
+  running = count_by (counted (standing.RunningIn n)) s.auctions;
+  due = count_by (counted (standing.DueIn n)) s.auctions;
   buy = sum_by (resting n Buy) s.orders;
   sell = sum_by (resting n Sell) s.orders;
 }

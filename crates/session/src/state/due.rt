@@ -3,7 +3,7 @@ ghost use Rattle.session.specs.Steps.{listing, opened, refusal_of, unless_due};
 ghost use Rattle.session.specs.Views.{view};
 
 use super::{Phase, Session};
-use crate::rows::due;
+use crate::rows::{Standing, tally};
 use market::interface::Market;
 use terms::refusal::Refusal;
 
@@ -29,7 +29,7 @@ impl<M: Market, S> Session<M, S> {
         if !in_phase {
             return Err(Refusal::Phase);
         }
-        match due(&self.auctions) {
+        match tally(&self.auctions, Standing::Due) {
             0 => Ok(()),
             due => Err(Refusal::Due(due)),
         }

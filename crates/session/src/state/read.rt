@@ -5,7 +5,7 @@ ghost use Rattle.session.specs.Steps.{Does, read_step, reading_for};
 ghost use Rattle.session.specs.Views.{view};
 
 use super::Session;
-use crate::rows::{contracts_resting, due_in, running_in, strategy_at};
+use crate::rows::{Standing, contracts_resting, strategy_at, tally};
 use market::interface::Market;
 use market::quote::synthetic;
 use terms::answer::Reading;
@@ -31,8 +31,8 @@ impl<M: Market, S> Session<M, S> {
         Reading {
             sbb,
             sbo,
-            running: running_in(&self.auctions, number),
-            due: due_in(&self.auctions, number),
+            running: tally(&self.auctions, Standing::RunningIn(number)),
+            due: tally(&self.auctions, Standing::DueIn(number)),
             buy: contracts_resting(&self.orders, number, Side::Buy),
             sell: contracts_resting(&self.orders, number, Side::Sell),
         }
