@@ -1,5 +1,5 @@
 -- The steps of counting.
-use Rattle.std.proofs.Common.{◌≡◌, ℕ, ◌-◌, ◌≤◌, Bool, leb, List, [], ◌∷◌, ◌++◌, length, take, drop, fold, sum_by, sym, refl, ap, ◌∙◌, arith}
+use Rattle.std.proofs.Common.{◌≡◌, ℕ, ◌+◌, ◌-◌, ◌<◌, ◌≤◌, Bool, leb, List, [], ◌∷◌, ◌++◌, length, get_or, take, drop, fold, sum_by, sym, refl, ap, ◌∙◌, arith}
 use Rattle.std.proofs.lemmas.List.Sorted.{length_permutation}
 use Rattle.ranked.proofs.Placement.{folded_whole}
 use Rattle.ranked.specs.Ranks.{placed}
@@ -11,12 +11,20 @@ use Rattle.terms.specs.Refusals.{Said, answered}
 use Rattle.ranked.specs.Contras.{contra_before}
 use Rattle.contra.specs.Answers.{contra_said}
 use Rattle.contra.specs.Named.{named}
-use Rattle.std.proofs.lemmas.List.{append_assoc, length-append, drop_at, append-nil, take_at}
-use Rattle.std.proofs.lemmas.List.Sums.{sum_by-cons}
+use Rattle.std.proofs.lemmas.List.{append_assoc, length-append, drop_at, append-nil, take_all, take_at}
+use Rattle.std.proofs.lemmas.List.Sums.{sum_by-cons, sum_by_more}
 use Rattle.ranked.specs.declared.contra.ContraItem.{ContraItem}
 use Rattle.contra.specs.Counting.{contra_of, ranked_of, count_of, counted_from, with_counted}
 
--- a size less what each of a list brings
+-- a size less what the first i of a list bring
+module _ {X : Type 0} (f : X → ℕ) (xs : List X) (size i room : ℕ) (inv : room ≡ size - sum_by f (take i xs)) where
+  pub room_on : (d : X) (v r : ℕ) → i < length xs → v ≡ f (get_or xs i d) → r ≡ room - v → r ≡ size - sum_by f (take (i + 1) xs)
+  room_on d v r h e k = omega (arith, sum_by_more f xs i d h)
+
+  pub room_all : length xs ≤ i → room ≡ size - sum_by f xs
+  room_all h = inv ∙ ap (λ l. size - sum_by f l) (take_all i xs h)
+
+-- and less what each brings
 pub room_left : {X : Type 0} (f : X → ℕ) (xs : List X) (size : ℕ) → fold (λ room x. room - f x) size xs ≡ size - sum_by f xs
 room_left f [] size = omega arith
 room_left f (x ∷ xs) size = omega (arith, room_left f xs (size - f x), sum_by-cons f x xs)
@@ -55,19 +63,17 @@ module _ (before : ContraItem → ContraItem → Bool) (items old ws ys : List C
   pub count_said : n ≡ length (counted_from size [] ranks)
   count_said = sym (counted_length size [] ranks ∙ long)
 
-  pub count_after : ys ≡ counted_from size [] (take (n - 0) (drop 0 ws)) → ys ++ drop (n - 0) (drop 0 ws) ≡ counted_from size [] ranks ++ drop (length (counted_from size [] ranks)) old
+  pub count_after : ys ≡ counted_from size [] (take n ws) → ys ++ drop n ws ≡ counted_from size [] ranks ++ drop (length (counted_from size [] ranks)) old
   count_after e =
-      let z : n - 0 ≡ n = omega arith in
       let f : take n ws ≡ ranks = ap (take n) after ∙ take_at ranks _ n long in
       let b : drop n ws ≡ drop n old = ap (drop n) after ∙ drop_at ranks _ n long in
-      ap (λ l. l ++ drop (n - 0) ws) (e ∙ (ap (λ k. counted_from size [] (take k ws)) z ∙ ap (counted_from size []) f))
-      ∙ (ap (λ k. counted_from size [] ranks ++ drop k ws) z
+      ap (λ l. l ++ drop n ws) (e ∙ ap (counted_from size []) f)
       ∙ (ap (λ l. counted_from size [] ranks ++ l) b
-      ∙ ap (λ k. counted_from size [] ranks ++ drop k old) count_said))
+      ∙ ap (λ k. counted_from size [] ranks ++ drop k old) count_said)
 
 -- the same, from what each step of the call gives
 module _ (a : AuctionRow) (os os' : List Order) (rs rs' : List Response) (old ws ys : List ContraItem) (size n : ℕ) (orders : os ≡ os') (responses : rs ≡ rs') (whole : size ≡ a.size) (after : ws ≡ ranked_of a os rs ++ drop n old) (count : n ≡ length (named a os rs)) where
-  pub items_after : ys ≡ counted_from size [] (take (n - 0) (drop 0 ws)) → ys ++ drop (n - 0) (drop 0 ws) ≡ contra_of a os' rs' ++ drop (length (contra_of a os' rs')) old
+  pub items_after : ys ≡ counted_from size [] (take n ws) → ys ++ drop n ws ≡ contra_of a os' rs' ++ drop (length (contra_of a os' rs')) old
   items_after e = rw (← orders, ← responses, ← whole) (count_after contra_before (named a os rs) old ws ys size n after count e)
 
   pub items_count : n ≡ length (contra_of a os' rs')
