@@ -14,5 +14,5 @@ returns-in-Some c =
       owner = c.insert-put.ensures.owner;
     }
 
-pub returns-in-None : goal.returns-in-None
-returns-in-None c = record { after = put_none _ _ _ _ c.in-None.is; len = put_none_len _ _ c.in-None.is; size = refl; owner = refl }
+pub returns-in_default : goal.returns-in_default
+returns-in_default c = record { after = put_none _ _ _ _ c.in_default.is; len = put_none_len _ _ c.in_default.is; size = refl; owner = refl }

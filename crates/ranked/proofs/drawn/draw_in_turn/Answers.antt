@@ -1,5 +1,4 @@
 use Rattle.std.proofs.Common.{◌<◌, length, arith}
-use Rattle.ranked.specs.Comparisons.{level, passed}
 use Rattle.ranked.proofs.Drawing.{all_drawn, drawing_is, due_more, front_more, lesser_drawn, same_more}
 use Rattle.ranked.proofs.drawn.draw_in_turn.Goals as goal
 
@@ -24,5 +23,5 @@ returns g c =
     record {
       after = e;
       bound = omega arith;
-      drawing = drawing_is n d g.met.T.Drawn.left g.T.Ranked.rank g.met.T.Drawn.ranked g.T.Ranked.before (level g.met.T.Rank.Ord.total g.T.Ranked.rank g.T.Ranked.before g.met.T.Ranked.compares) (passed g.met.T.Rank.Ord.total g.T.Ranked.rank g.T.Ranked.before g.met.T.Ranked.compares) _ _ _ _ (lesser_drawn n d _ _ _ _ _ i.0 i.1 i.2 k) e;
+      drawing = drawing_is n d g.met.T.Drawn.left g.T.Ranked.rank g.met.T.Drawn.ranked g.met.T.Rank.Ord.total g.T.Ranked.before g.met.T.Ranked.compares _ _ _ _ (lesser_drawn n d _ _ _ _ _ i.0 i.1 i.2 k) e;
     }
