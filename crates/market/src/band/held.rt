@@ -106,9 +106,9 @@ where
     }
 
     fn take(&mut self, notice: &M::Notice) -> Result<(), M::Fault> {
-        if let Some(component) = self.lowest_moved(notice) {
-            return Err(M::Fault::outside(component));
+        match self.lowest_moved(notice) {
+            Some(component) => Err(M::Fault::outside(component)),
+            None => self.below.take(notice),
         }
-        self.below.take(notice)
     }
 }

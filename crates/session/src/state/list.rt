@@ -17,6 +17,7 @@ impl<M: Market, S> Session<M, S> {
         ensures { Does (list_step (view M.Market.model self.old) legs.now) (said result) (view M.Market.model self.new) }
     {
         self.unless_due(self.phase.is_listing())?;
+        // A closure, for the plain value would have to be one that can be dropped.
         let strategy = Strategy::new(legs).ok_or_else(|| Refusal::Range)?;
         if self.strategies.is_full() {
             return Err(Refusal::Full);
