@@ -11,8 +11,14 @@ pub enum BoardNotice {
     Clear { component: u32, side: Side },
 }
 
+// The two tops of a component.
+#[derive(Clone, Copy)]
+struct Tops {
+    bid: Option<Top>,
+    offer: Option<Top>,
+}
+
 #[derive(Clone, Copy)]
 pub struct Board {
-    bids: [Option<Top>; 16],
-    offers: [Option<Top>; 16],
+    tops: [Tops; 16],
 }

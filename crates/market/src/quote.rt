@@ -17,10 +17,8 @@ pub fn synthetic<M: Market>(market: &mut M, strategy: &Strategy, quote: Side) ->
 {
     let legs = strategy.legs();
     let mut tops = [None; 4];
-    for i in 0..legs.len() {
-        let leg = &legs[i];
-        let top = market.tell(leg.component, leg.reads(quote));
-        tops[i] = top;
+    for (i, leg) in legs.iter().enumerate() {
+        tops[i] = market.tell(leg.component, leg.reads(quote));
     }
-    strategy.synthetic(&tops[0..legs.len()])
+    strategy.synthetic(&tops[..legs.len()])
 }

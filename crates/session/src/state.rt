@@ -4,6 +4,7 @@ use terms::order::{Order, Response};
 use terms::strategy::Strategy;
 use terms::table::Table;
 
+mod due;
 mod list;
 mod notice;
 mod open;

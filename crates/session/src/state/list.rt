@@ -5,8 +5,7 @@ ghost use Rattle.session.specs.States.{with_strategies};
 ghost use Rattle.session.specs.Steps.{Does, list_step};
 ghost use Rattle.session.specs.Views.{view};
 
-use super::{Phase, Session};
-use crate::rows::{Standing, tally};
+use super::Session;
 use market::interface::Market;
 use terms::leg::Leg;
 use terms::refusal::Refusal;
@@ -17,27 +16,13 @@ impl<M: Market, S> Session<M, S> {
     pub fn list(&mut self, legs: &[Leg]) -> Result<u32, Refusal<M::Fault>>
         ensures { Does (list_step (view M.Market.model self.old) legs.now) (said result) (view M.Market.model self.new) }
     {
-        let Phase::Listing = self.phase else {
-            return Err(Refusal::Phase);
-        };
-        let due = tally(&self.auctions, Standing::Due);
-        if due > 0 {
-            return Err(Refusal::Due(due));
-        }
-        let Some(strategy) = Strategy::new(legs) else {
-            return Err(Refusal::Range);
-        };
-        if self.lists_full() {
+        self.unless_due(self.phase.is_listing())?;
+        // A closure, for the plain value would have to be one that can be dropped.
+        let strategy = Strategy::new(legs).ok_or_else(|| Refusal::Range)?;
+        if self.strategies.is_full() {
             return Err(Refusal::Full);
         }
         Ok(self.enlist(strategy))
-    }
-
-    // Whether there is no room for another strategy.
-    fn lists_full(&self) -> bool
-        ensures { result ≡ nat_le 8 (length (view M.Market.model self.now).strategies) }
-    {
-        self.strategies.is_full()
     }
 
     // Puts a strategy behind those listed, and gives its number.

@@ -5,7 +5,7 @@ ghost use Rattle.session.specs.Steps.{Does, read_step, reading_for};
 ghost use Rattle.session.specs.Views.{view};
 
 use super::Session;
-use crate::rows::{Standing, contracts_resting, strategy_at, tally};
+use crate::rows::{contracts_resting, due_in, running_in, strategy_at};
 use market::interface::Market;
 use market::quote::synthetic;
 use terms::answer::Reading;
@@ -18,9 +18,8 @@ impl<M: Market, S> Session<M, S> {
     pub fn read(&mut self, strategy: u32) -> Result<Reading, Refusal<M::Fault>>
         ensures { Does (read_step M.Market.top (view M.Market.model self.old) strategy) (said result) (view M.Market.model self.new) }
     {
-        let Some(legs) = strategy_at(&self.strategies, strategy) else {
-            return Err(Refusal::Range);
-        };
+        // A closure, for the plain value would have to be one that can be dropped.
+        let legs = strategy_at(&self.strategies, strategy).ok_or_else(|| Refusal::Range)?;
         Ok(self.reading(strategy, &legs))
     }
 
@@ -33,8 +32,8 @@ impl<M: Market, S> Session<M, S> {
         Reading {
             sbb,
             sbo,
-            running: tally(&self.auctions, Standing::RunningIn(number)),
-            due: tally(&self.auctions, Standing::DueIn(number)),
+            running: running_in(&self.auctions, number),
+            due: due_in(&self.auctions, number),
             buy: contracts_resting(&self.orders, number, Side::Buy),
             sell: contracts_resting(&self.orders, number, Side::Sell),
         }
