@@ -4,7 +4,7 @@ ghost use Rattle.std.specs.Option.{option_map};
 ghost use Rattle.script.specs.declared.word.Word.TheVariants.{Key};
 ghost use Rattle.script.specs.Forms.{one_of, only_keyword};
 ghost use Rattle.script.specs.Legs.{leg_of, legs_of, ratio_of, trade_side};
-ghost use Rattle.script.specs.Lines.{Spoken, add_of, clear_of, first_of, listing, market_of, mark_of, only_number, order_of, plain_of, quoted_of, quote_of, quote_side, share_of, spoken, statement_of, withdraw_of, words_of};
+ghost use Rattle.script.specs.Lines.{Spoken, add_of, clear_of, first_of, listing, market_of, mark_of, only_number, plain_of, quoted_of, quote_of, quote_side, share_of, spoken, statement_of, withdraw_of, words_of};
 
 use crate::keyword::Keyword;
 use crate::word::Word;
@@ -173,21 +173,17 @@ fn clear(words: &[Word]) -> Option<BoardNotice>
     })
 }
 
-fn order(number: u32, words: &[Word]) -> Option<BookNotice>
-    ensures { result ≡ order_of number words.now }
-{
-    let quoted = quoted_words(words)?;
-    Some(BookNotice::Add { number, quoted })
-}
-
 fn add(words: &[Word]) -> Option<BookNotice>
     ensures { result ≡ add_of words.now }
 {
-    let (first, rest) = words.split_first()?;
-    match first {
-        Word::Number(number) => order(*number, rest),
-        _ => None,
-    }
+    let [Word::Number(number), rest @ ..] = words else {
+        return None;
+    };
+    let quoted = quoted_words(rest)?;
+    Some(BookNotice::Add {
+        number: *number,
+        quoted,
+    })
 }
 
 fn withdraw(words: &[Word]) -> Option<BookNotice>
@@ -277,12 +273,9 @@ fn list_statement(heap: Global, words: &[Word]) -> Result<Option<Statement>, All
 fn parsed(heap: Global, words: &[Word]) -> Result<Option<Statement>, AllocError>
     ensures { IfOk result (λ o. option_map spoken o ≡ statement_of words.now) }
 {
-    let Some((first, rest)) = words.split_first() else {
-        return Ok(None);
-    };
-    match first {
-        Word::Key(Keyword::List) => list_statement(heap, rest),
-        Word::Key(keyword) => Ok(plain_statement(*keyword, rest)),
+    match words {
+        [Word::Key(Keyword::List), rest @ ..] => list_statement(heap, rest),
+        [Word::Key(keyword), rest @ ..] => Ok(plain_statement(*keyword, rest)),
         _ => Ok(None),
     }
 }

@@ -17,6 +17,7 @@ pub enum Word {
     Negative(i32),
 }
 
+// Two functions, since a generic `parse` has no clause that says which number it reads.
 fn unsigned_number(text: &str) -> Option<u32>
     requires { slice_index text.now 0 ≢ 43 }
     ensures { result ≡ number_below 4294967296 text.now }
