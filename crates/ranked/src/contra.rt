@@ -7,7 +7,7 @@ ghost use Rattle.std.proofs.Common.{rules};
 use crate::drawn::Drawn;
 use crate::rank::Ranked;
 
-#[derive(Clone, Copy)]
+#[derive(Clone, Copy, Default)]
 pub struct ContraItem {
     pub user: u32,
     pub number: u32,
