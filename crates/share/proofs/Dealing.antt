@@ -34,12 +34,10 @@ module _ (sum q : ℕ) (xs ws old : List ℕ) (over i left : ℕ) (inv : (take i
   deal_end h k = write_end (dealt sum q left) xs ws old (dealt sum q over xs) i inv (dealt_none sum q left) (omega arith)
 
 -- the quantity covers the sum: the sizes are copied
-pub all_given : (xs ws old : List ℕ) (q all : ℕ) → all ≡ sum xs → all ≤ q → ws ≡ xs → ws ++ drop (length xs - 0) (drop 0 old) ≡ pro_rata xs q ++ drop (length xs) old
+pub all_given : (xs ws old : List ℕ) (q all : ℕ) → all ≡ sum xs → all ≤ q → ws ≡ xs → ws ++ drop (length xs) old ≡ pro_rata xs q ++ drop (length xs) old
 unfolding pro_rata
 all_given xs ws old q all e h same =
-    let whole : length xs - 0 ≡ length xs = omega arith in
-    ap (λ n. ws ++ drop n old) whole
-    ∙ ap (λ vs. vs ++ drop (length xs) old) (same ∙ sym (cond-true (leb (total xs) q) xs _ (le-leb (total xs) q (omega (arith, sum_total xs)))))
+    ap (λ vs. vs ++ drop (length xs) old) (same ∙ sym (cond-true (leb (total xs) q) xs _ (le-leb (total xs) q (omega (arith, sum_total xs)))))
 
 -- the quantity is short
 module _ (xs : List ℕ) (q all : ℕ) (e : all ≡ sum xs) (h : q < all) where

@@ -1,7 +1,6 @@
 // Pro rata: gives each size its part of the quantity, rounded down, and then one more each in rank order.
 ghost use Rattle.std.specs.Prelude.{◌≡◌, ◌+◌, ◌-◌, ◌^◌, ◌<◌, ◌≤◌, min, ◌++◌, length, drop, sum, sum_by};
-ghost use Rattle.share.specs.Awards.{total};
-ghost use Rattle.share.specs.Proration.{part, parts, one_more, dealt, pro_rata};
+ghost use Rattle.share.specs.Proration.{part, one_more, dealt, pro_rata};
 ghost use Rattle.share.specs.Prorating.{pro_rata_each, pro_rata_within, pro_rata_spent};
 
 use crate::range::check_request;
@@ -70,7 +69,7 @@ fn prorate(sizes: &[u32], q: u32, given: &mut [u32])
 {
     let sum = sizes.iter().sum();
     if sum <= q {
-        given[0..sizes.len()].copy_from_slice(sizes);
+        given[..sizes.len()].copy_from_slice(sizes);
         return;
     }
     let over = left_over(sizes, q, sum);
