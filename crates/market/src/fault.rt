@@ -3,6 +3,7 @@
 ghost use Rattle.std.specs.Prelude.{◌≡◌, ℕ};
 ghost use Rattle.market.specs.Faults.{cause_number, fault_at, outside_band};
 
+// Each cause with the number that tells it.
 #[derive(Clone, Copy, PartialEq, Eq, Debug)]
 pub enum Cause {
     OutOfRange = 1,
