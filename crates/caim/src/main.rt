@@ -149,6 +149,7 @@ fn headings<'a>(
     mut lines: Lines<'a>,
 ) -> Result<Lines<'a>, Stop> {
     let mut calls = lines;
+    // No `for`: the lines from a call on are handed on.
     while let Some(line) = lines.next() {
         if let Some(statement) = read_line(rt, line)? {
             match setup.heading(&statement) {

@@ -78,6 +78,7 @@ fn lexed_words(heap: Global, line: &[u8]) -> Result<Vec<Word>, Unread<'_>>
 {
     let mut rest = &line[..uncommented_len(line)];
     let mut words = Vec::new(heap);
+    // No `for`: the iterator would be a type that holds `rest` and nothing more.
     while let Some((spelling, after)) = next_spelling(rest) {
         let Some(word) = word_of(spelling) else {
             return Err(Unread::Unknown(spelling));
