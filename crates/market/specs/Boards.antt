@@ -40,13 +40,13 @@ abbrev pub range_fault : ℕ → Bool → Option Fault
 range_fault c priced = cond (component c) (cond priced None (Some (fault_at c OutOfRange))) (Some (fault_at 0 OutOfRange))
 
 -- what a notice speaks of
-abbrev pub component_of : BoardNotice → ℕ
-component_of (Set q) = q.component
-component_of (Clear c s) = c
+abbrev pub notice_component : BoardNotice → ℕ
+notice_component (Set q) = q.component
+notice_component (Clear c s) = c
 
-abbrev pub side_of : BoardNotice → Side
-side_of (Set q) = q.side
-side_of (Clear c s) = s
+abbrev pub notice_side : BoardNotice → Side
+notice_side (Set q) = q.side
+notice_side (Clear c s) = s
 
 -- a price that it sets is in range
 abbrev pub priced : BoardNotice → Bool
@@ -54,7 +54,7 @@ priced (Set q) = is_some (price_of q.price)
 priced (Clear c s) = true
 
 abbrev pub board_fault : BoardNotice → Option Fault
-board_fault n = range_fault (component_of n) (priced n)
+board_fault n = range_fault (notice_component n) (priced n)
 
 -- the top that a notice leaves where it speaks of
 abbrev pub heard : BoardNotice → Option Top
@@ -63,10 +63,10 @@ heard (Clear c s) = None
 
 -- the notice is about this component and side
 abbrev pub speaks_of : BoardNotice → ℕ → Side → Bool
-speaks_of n c s = component_of n == c && same_side (side_of n) s
+speaks_of n c s = notice_component n == c && same_side (notice_side n) s
 
 abbrev pub board_after : Board → BoardNotice → Board
-board_after b n = with_top b (component_of n) (side_of n) (heard n)
+board_after b n = with_top b (notice_component n) (notice_side n) (heard n)
 
 -- a board is changed where the notice speaks of, and nowhere else
 abbrev pub Shows : Board → BoardNotice → Board → Type 0

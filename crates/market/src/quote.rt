@@ -17,6 +17,7 @@ pub fn synthetic<M: Market>(market: &mut M, strategy: &Strategy, quote: Side) ->
 {
     let legs = strategy.legs();
     let mut tops = [None; 4];
+    // By index: of an array whose `iter_mut` is zipped nothing is known after the loop.
     for (i, leg) in legs.iter().enumerate() {
         tops[i] = market.tell(leg.component, leg.reads(quote));
     }

@@ -3,7 +3,7 @@ ghost use Rattle.std.specs.Result.{result_err};
 ghost use Rattle.terms.specs.declared.side.Side.{Side};
 ghost use Rattle.market.specs.declared.board.Board.{Board};
 ghost use Rattle.market.specs.Meaning.{admission, led_by};
-ghost use Rattle.market.specs.Boards.{Shows, board_after, board_fault, board_top, component_of, heard, on_side, priced, side_of, with_on_side, with_top};
+ghost use Rattle.market.specs.Boards.{Shows, board_after, board_fault, board_top, notice_component, heard, on_side, priced, notice_side, with_on_side, with_top};
 ghost use Rattle.std.proofs.Common.{rules};
 
 use super::{Board, BoardNotice, Tops};
@@ -69,8 +69,8 @@ impl Board {
 impl BoardNotice {
     // The component and side that it speaks of.
     fn subject(&self) -> (u32, Side)
-        ensures component { result.0 ≡ component_of self.now }
-        ensures side { result.1 ≡ side_of self.now }
+        ensures component { result.0 ≡ notice_component self.now }
+        ensures side { result.1 ≡ notice_side self.now }
     {
         match self {
             BoardNotice::Set(quoted) => (quoted.component, quoted.side),
@@ -100,7 +100,7 @@ impl BoardNotice {
     // The place that it speaks of, if a board admits it.
     fn admitted(&self) -> Result<Place, Fault>
         ensures fault { result_err result ≡ board_fault self.now }
-        ensures place { IfOk result (λ p. (p.component ≡ component_of self.now) × (p.side ≡ side_of self.now)) }
+        ensures place { IfOk result (λ p. (p.component ≡ notice_component self.now) × (p.side ≡ notice_side self.now)) }
     {
         let (component, side) = self.subject();
         let place = Place::new(component, side).ok_or(Cause::OutOfRange.nowhere())?;

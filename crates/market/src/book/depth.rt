@@ -3,7 +3,6 @@ ghost use Rattle.std.specs.Result.{result_err};
 ghost use Rattle.terms.specs.Ranges.{number as number_in_range};
 ghost use Rattle.terms.specs.Tables.{entries};
 ghost use Rattle.terms.specs.Tops.{top_of};
-ghost use Rattle.market.specs.Meaning.{led};
 ghost use Rattle.market.specs.declared.book.BookOrder.{BookOrder};
 ghost use Rattle.market.specs.Books.{Fits, IsOrder, ShowsBest, add_fault, best_among, better, book_after, book_fault, book_top, changed, is_at, joined, place_of, with_order, withdraw_fault};
 ghost use Rattle.std.proofs.Common.{rules};
@@ -85,6 +84,7 @@ fn is_number(number: u32) -> bool
 }
 
 // What an admitted notice does to the orders.
+#[derive(Clone, Copy)]
 enum Change {
     Added(BookOrder),
     Withdrawn(usize),
@@ -144,6 +144,20 @@ impl Change {
             BookNotice::Withdraw { number } => withdrawn(orders, *number).map(Change::Withdrawn),
         }
     }
+
+    // The best of a place among what it leaves of these orders.
+    fn best(&self, place: Place, orders: &[BookOrder]) -> Option<Top>
+        requires { Fits orders.now self.now }
+        ensures { result ≡ best_among place.component place.side None (changed orders.now self.now) }
+    {
+        match self {
+            Change::Added(order) => order.join(place, best_among(place, None, orders)),
+            Change::Withdrawn(at) => {
+                let before = best_among(place, None, &orders[..*at]);
+                best_among(place, before, &orders[*at + 1..])
+            }
+        }
+    }
 }
 
 impl DepthBook {
@@ -185,7 +199,11 @@ impl Market for DepthBook {
 
     fn foresee(&mut self, notice: &BookNotice, component: u32, side: Side) -> Option<Top> {
         let place = Place::new(component, side)?;
-        foreseen(place, self.orders.entries(), notice)
+        let orders = self.orders.entries();
+        match Change::of(orders, notice) {
+            Ok(change) => change.best(place, orders),
+            Err(_) => best_among(place, None, orders),
+        }
     }
 
     fn take(&mut self, notice: &BookNotice) -> Result<(), Fault> {
@@ -196,19 +214,5 @@ impl Market for DepthBook {
             Change::Withdrawn(at) => self.orders.remove(at),
         }
         Ok(())
-    }
-}
-
-// What a book with these orders would show after the notice.
-fn foreseen(place: Place, orders: &[BookOrder], notice: &BookNotice) -> Option<Top>
-    ensures { result ≡ best_among place.component place.side None (led book_fault book_after orders.now notice.now) }
-{
-    match Change::of(orders, notice) {
-        Ok(Change::Added(order)) => order.join(place, best_among(place, None, orders)),
-        Ok(Change::Withdrawn(at)) => {
-            let before = best_among(place, None, &orders[..at]);
-            best_among(place, before, &orders[at + 1..])
-        }
-        Err(_) => best_among(place, None, orders),
     }
 }
