@@ -79,7 +79,9 @@ fn read_line(rt: &HostRuntime, line: Line<'_>) -> Result<Option<Statement>, Stop
     let words = match words(rt.alloc(), line.bytes) {
         Ok(words) => words,
         Err(Unread::Memory) => return Err(Stop::Failed(anyhow!("out of memory"))),
-        Err(Unread::Unknown(spelling)) => return Err(unreadable(rt, line.number, spelling)),
+        Err(Unread::Unknown { spelling, .. }) => {
+            return Err(unreadable(rt, line.number, spelling));
+        }
     };
     if words.is_empty() {
         return Ok(None);
