@@ -79,7 +79,9 @@ fn read_line(rt: &HostRuntime, line: Line<'_>) -> Result<Option<Statement>, Stop
     let words = match words(rt.alloc(), line.bytes) {
         Ok(words) => words,
         Err(Unread::Memory) => return Err(Stop::Failed(anyhow!("out of memory"))),
-        Err(Unread::Unknown(spelling)) => return Err(unreadable(rt, line.number, spelling)),
+        Err(Unread::Unknown { spelling, .. }) => {
+            return Err(unreadable(rt, line.number, spelling));
+        }
     };
     if words.is_empty() {
         return Ok(None);
@@ -149,6 +151,7 @@ fn headings<'a>(
     mut lines: Lines<'a>,
 ) -> Result<Lines<'a>, Stop> {
     let mut calls = lines;
+    // No `for`: the lines from a call on are handed on.
     while let Some(line) = lines.next() {
         if let Some(statement) = read_line(rt, line)? {
             match setup.heading(&statement) {

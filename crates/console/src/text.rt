@@ -19,7 +19,7 @@ pub struct Line<'a> {
     pub bytes: &'a [u8],
 }
 
-// The lines that are left of a text, and the number of the first.
+// The lines that are left of a text, and the number of the first. A copy goes on from the same line.
 #[derive(Clone, Copy)]
 pub struct Lines<'a> {
     number: usize,

@@ -1,11 +1,11 @@
 -- Where the spellings of a text stand.
-use Rattle.std.proofs.Common.{◌≡◌, ℕ, ◌+◌, ◌<◌, ◌≤◌, Bool, true, false, cond, ◌&&◌, eqb, List, [], ◌∷◌, ◌++◌, length, take, drop, sym, refl, ap, ◌∙◌, add-zero, one-add, arith}
-use Rattle.std.proofs.lemmas.List.{drop_all, length-drop, length-take-le, take-append-drop}
+use Rattle.std.proofs.Common.{◌≡◌, ℕ, ◌+◌, ◌<◌, ◌≤◌, Bool, true, false, cond, ◌&&◌, eqb, List, [], ◌∷◌, ◌++◌, length, get_or, take, drop, sym, refl, ap, ◌∙◌, add-zero, one-add, arith}
+use Rattle.std.proofs.lemmas.List.{drop_all, get_or-drop, length-drop, length-take-le, take-append-drop}
+use Rattle.std.proofs.lemmas.List.Sums.{prefix_len_stops}
 use Rattle.std.proofs.lemmas.Bool.{cond-false}
 use Rattle.std.proofs.lemmas.Bool.Decides.{nat_tests}
 use Rattle.std.specs.List.{prefix_len}
 use Rattle.script.specs.Lexed.{Begins, Span, begun_at, gap, goes_on, in_word, spanned, spans, spelling_len}
-use Rattle.script.proofs.Runs.{after_run}
 
 moved : (i j : ℕ) (xs ys : List ℕ) → i ≡ j → xs ≡ ys → spans i xs ≡ spans j ys
 moved i j xs ys e f = ap (λ k. spans k xs) e ∙ ap (spans j) f
@@ -19,7 +19,7 @@ pub past_gaps : (i : ℕ) (xs : List ℕ) → spans i xs ≡ spans (i + prefix_l
 past_gaps i [] = refl
 past_gaps i (b ∷ bs) = gap_by (gap b) i b (prefix_len gap bs) bs _ (past_gaps (i + 1) bs) (λ e. sym (cond-false (gap b) (spans (i + 1) bs) _ e))
 
-no_gap : (b : ℕ) → in_word b ≡ true → gap b ≡ false
+pub no_gap : (b : ℕ) → in_word b ≡ true → gap b ≡ false
 no_gap b e = grind (arith, nat_tests)
 
 opened : (g w t : Bool) (xs ys zs : List Span) → g ≡ false → w ≡ true → cond g xs (cond (w && t) ys zs) ≡ cond t ys zs
@@ -66,7 +66,10 @@ some_spelling b bs g = some_by (eqb b 44) (in_word b) b (prefix_len in_word bs) 
 at_run : (text xs : List ℕ) (i : ℕ) → drop (prefix_len gap text) text ≡ xs → 0 < length xs → (spans i xs ≡ spanned i (i + spelling_len xs) ∷ spans (i + spelling_len xs) (drop (spelling_len xs) xs)) × (0 < spelling_len xs)
 at_run text [] i e h = absurd (omega arith)
 at_run text (b ∷ bs) i e h =
-    let g : gap b ≡ false = after_run gap text b bs e in
+    let n : ℕ = prefix_len gap text in
+    let some : n < length text = omega (arith, ap length e, length-drop n text) in
+    let here : get_or text n 0 ≡ b = ap (λ m. get_or text m 0) (sym (add-zero n)) ∙ (sym (get_or-drop n text 0 0) ∙ ap (λ xs. get_or xs 0 0) e) in
+    let g : gap b ≡ false = sym (ap gap here) ∙ prefix_len_stops gap text 0 some in
     (spelling_at i b bs g, some_spelling b bs g)
 
 module _ (text left : List ℕ) (cut : drop (prefix_len gap text) text ≡ left) where

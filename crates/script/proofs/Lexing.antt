@@ -1,10 +1,10 @@
 -- Steps of the loop that reads the words of a text.
-use Rattle.std.proofs.Common.{◌≡◌, ℕ, ◌+◌, List, [], ◌∷◌, ◌++◌, length, take, drop, Some, None, Ok, Err, Option, Result, sym, refl, ap, ◌∙◌, append_assoc, append-nil, arith}
+use Rattle.std.proofs.Common.{◌≡◌, ℕ, ◌+◌, ◌-◌, List, [], ◌∷◌, ◌++◌, length, take, drop, Some, None, Ok, Err, Option, Result, sym, refl, ap, ◌∙◌, append_assoc, append-nil, arith}
 use Rattle.std.proofs.lemmas.List.{drop-drop, drop_at, length-append, length-drop, length-take-le, take_at}
 use Rattle.std.proofs.lemmas.List.Sums.{prefix_len-le-length}
 use Rattle.std.specs.List.{prefix_len}
 use Rattle.script.specs.declared.word.Word.{Word}
-use Rattle.script.specs.Lexed.{Begins, FirstUnknown, Span, before_comment, gap, part, read_at, read_by, spanned, spans, uncommented}
+use Rattle.script.specs.Lexed.{Begins, FirstUnknown, Span, before_comment, gap, lexed, part, read_at, read_by, spanned, spans, uncommented}
 use Rattle.script.specs.Words.{word_of}
 
 -- words already read, before what is left
@@ -57,15 +57,19 @@ module _ (text : List ℕ) (ws : List Word) (rest : List ℕ) (l : Left text ws 
       reads = ap (λ us. prefixed us (read_at text more)) g ∙ (one_read ws w here (read_at text more) ∙ (ap (λ p. prefixed ws (read_by p here (read_at text more))) (sym f) ∙ step));
     }
 
-    pub no_word : (line : List ℕ) → text ≡ uncommented line → o ≡ None → FirstUnknown line spelling
-    no_word line t f =
-        let long : length (drop (l.at + prefix_len gap rest) text) ≡ length spelling + length after = ap length tail ∙ length-append spelling after in
+    -- what is left of the text has the spelling in it
+    pub left_length : length text ≡ l.at + prefix_len gap rest + (length spelling + length after)
+    left_length = omega (arith, sym (length-drop (l.at + prefix_len gap rest) text) ∙ (ap length tail ∙ length-append spelling after), b.some)
+
+    pub no_word : (line : List ℕ) (n : ℕ) → text ≡ uncommented line → o ≡ None → n ≡ length text - length after - length spelling → FirstUnknown line n spelling
+    no_word line n t f g =
+        let same : n ≡ l.at + prefix_len gap rest = omega (arith, left_length) in
+        let stops : lexed line ≡ Err here = ap (λ xs. read_at xs (spans 0 xs)) (sym t) ∙ sym (ap (λ p. prefixed ws (read_by p here (read_at text more))) (sym f) ∙ step) in
         record {
-          at = here;
-          stops = ap (λ xs. read_at xs (spans 0 xs)) (sym t) ∙ sym (ap (λ p. prefixed ws (read_by p here (read_at text more))) (sym f) ∙ step);
-          some = omega (arith, b.some);
-          within = omega (arith, long, length-drop (l.at + prefix_len gap rest) text, b.some, ap length t, length-take-le (prefix_len before_comment line) line (prefix_len-le-length before_comment line), prefix_len-le-length before_comment line);
-          is = sym cut_out ∙ ap (part here) t;
+          stops = stops ∙ ap (λ k. Err (spanned k (k + length spelling))) (sym same);
+          some = b.some;
+          within = omega (arith, left_length, same, ap length t, length-take-le (prefix_len before_comment line) line (prefix_len-le-length before_comment line), prefix_len-le-length before_comment line);
+          is = sym cut_out ∙ (ap (part here) t ∙ ap (λ k. part (spanned k (k + length spelling)) (uncommented line)) (sym same));
         }
 
   pub no_more : ((i : ℕ) → spans i rest ≡ []) → read_at text (spans 0 text) ≡ Ok ws

@@ -1,6 +1,5 @@
 pub mod Lookups
 pub mod Numbers
-pub mod Runs
 pub mod Cutting
 pub mod Lexing
 pub mod Refusing

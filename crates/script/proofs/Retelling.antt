@@ -13,9 +13,9 @@ use Rattle.script.specs.declared.lex.Unread.TheVariants.{Memory, Unknown}
 use Rattle.script.specs.declared.word.Word.{Word}
 use Rattle.script.specs.declared.word.Word.TheVariants.{Key, Comma, Number, Negative}
 use Rattle.script.specs.Keywords.{spelling}
-use Rattle.script.specs.Lexed.{AllFit, Gives, Reads, Span, before_comment, gap, in_word, lexed, part, read_at, read_by, spanned, spans, spelling_len, uncommented, written_all}
+use Rattle.script.specs.Lexed.{AllFit, Gives, Reads, Span, before_comment, in_word, lexed, part, read_at, read_by, spanned, spans, spelling_len, uncommented, written_all}
 use Rattle.script.specs.Words.{Fit, word_of, written}
-use Rattle.script.proofs.Cutting.{spelling_at}
+use Rattle.script.proofs.Cutting.{no_gap, spelling_at}
 use Rattle.script.proofs.Lookups.{every}
 use Rattle.script.proofs.Numbers.{own}
 use Rattle.script.proofs.Writing.{word_back}
@@ -72,9 +72,6 @@ firm_run (x ∷ xs) ys e =
     let p = and_parts (in_word x) (before_comment x && firm xs) e in
     let q = and_parts (before_comment x) (firm xs) p.1 in
     cond-true (in_word x) (1 + prefix_len in_word (xs ++ (32 ∷ ys))) 0 p.0 ∙ (ap (λ n. 1 + n) (firm_run xs ys q.1) ∙ one-add (length xs))
-
-no_gap : (b : ℕ) → in_word b ≡ true → gap b ≡ false
-no_gap b e = grind (arith, nat_tests)
 
 no_comma : (b : ℕ) → in_word b ≡ true → eqb b 44 ≡ false
 no_comma b e = grind (arith, nat_tests)
@@ -147,8 +144,8 @@ retold (Ok v) line e ws h f =
     let g : lexed line ≡ Ok ws = ap lexed f ∙ words_back ws h in
     cc
 retold (Err Memory) line e ws h f = tt
-retold (Err (Unknown s)) line e ws h f =
+retold (Err (Unknown n s)) line e ws h f =
     let g : lexed line ≡ Ok ws = ap lexed f ∙ words_back ws h in
-    let k : lexed line ≡ Err e.at = e.stops in
+    let k : lexed line ≡ Err (spanned n (n + length s.now)) = e.stops in
     let z : ◌≡◌ {A = ℕ} 0 1 = cc in
     absurd (omega arith)

@@ -41,6 +41,7 @@ impl fmt::Display for Price {
     }
 }
 
+// A reading, as it is printed.
 #[derive(Drop)]
 struct Read(Reading);
 
@@ -75,6 +76,7 @@ impl fmt::Display for Answer {
     }
 }
 
+// A refusal, with what is told beside its number.
 #[derive(Drop)]
 struct Refused(Refusal<Fault>);
 
@@ -99,6 +101,7 @@ impl fmt::Display for Refused {
     }
 }
 
+// The line printed for a call.
 #[derive(Drop)]
 struct Line {
     number: usize,

@@ -49,6 +49,7 @@ pub enum Keyword {
     Statement,
 }
 
+// An enum does not list its values.
 const ALL: [Keyword; 39] = [
     Keyword::Market,
     Keyword::Board,
@@ -170,7 +171,7 @@ fn all_keywords() -> &'static [Keyword]
     &ALL
 }
 
-// The keyword that is spelled so.
+// The keyword that is spelled so, if any: there is nothing to tell of a spelling that is none.
 pub fn keyword_of(bytes: &[u8]) -> Option<Keyword>
     ensures value { result ≡ keyword_of bytes.now }
     ensures inverse { (k : Keyword) → keyword_of (spelling k) ≡ Some k }

@@ -12,7 +12,8 @@ use std::alloc::{AllocFailed, Global};
 #[derive(Clone, Copy)]
 pub enum Unread<'a> {
     Memory,
-    Unknown(&'a [u8]),
+    // the spelling, and the byte of the line at which it stands
+    Unknown { at: usize, spelling: &'a [u8] },
 }
 
 impl<'a, T: Drop> From<AllocFailed<T>> for Unread<'a> {
@@ -76,11 +77,14 @@ fn next_spelling(text: &[u8]) -> Option<(&[u8], &[u8])>
 fn lexed_words(heap: Global, line: &[u8]) -> Result<Vec<Word>, Unread<'_>>
     ensures { Reads line.now result }
 {
-    let mut rest = &line[..uncommented_len(line)];
+    let text = &line[..uncommented_len(line)];
+    let mut rest = text;
     let mut words = Vec::new(heap);
+    // No `for`: the iterator would be a type that holds `rest` and nothing more.
     while let Some((spelling, after)) = next_spelling(rest) {
         let Some(word) = word_of(spelling) else {
-            return Err(Unread::Unknown(spelling));
+            let at = text.len() - after.len() - spelling.len();
+            return Err(Unread::Unknown { at, spelling });
         };
         words.push(word)?;
         rest = after;

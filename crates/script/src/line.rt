@@ -252,6 +252,7 @@ fn legs(heap: Global, words: &[Word]) -> Result<Option<Vec<Leg>>, AllocError>
     ensures { IfOk result (λ o. option_map vec_items o ≡ legs_of words.now) }
 {
     let mut legs = Vec::new(heap);
+    // `split` gives one piece of no words.
     if words.is_empty() {
         return Ok(Some(legs));
     }
