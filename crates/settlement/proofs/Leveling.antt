@@ -22,11 +22,6 @@ unfolding total
 unmatched_left [] left = omega arith
 unmatched_left (x ∷ xs) left = unmatched_left xs (left - x.counted) ∙ (let z : left - x.counted - total counts xs ≡ left - (x.counted + total counts xs) = omega arith in z)
 
-pub all_matched : (b : Bool) (here : List ContraItem) (left r : ℕ) → true ≡ b → r ≡ fold (λ rest x. rest - counts x) left here → left - r ≡ matched_in b here left
-all_matched b here left r e f =
-    let z : left - r ≡ min left (total counts here) = omega (arith, unmatched_left here left) in
-    z ∙ ap (λ t. cond t (min left (total counts here)) 0) e
-
 -- the fills of a level: customers, then groups, then what is the Initiating Order's
 module _ (d : Deal) (awards : List ℕ → ℕ → List ℕ) (here cs os : List ContraItem) (customers : cs ≡ customers_in here) (others : os ≡ others_in here) (q kept x : ℕ) (groups : x ≡ after_customers here q - kept) (own : List Fill) where
   abbrev first : List Part

@@ -1,9 +1,9 @@
 // Works one level: who is given what at one price.
-ghost use Rattle.std.specs.Prelude.{◌≡◌, ◌-◌, ◌≤◌, fold};
+ghost use Rattle.std.specs.Prelude.{◌≡◌, ◌≤◌, min};
 ghost use Rattle.allocation.specs.Deals.{deal_of};
 ghost use Rattle.allocation.specs.Fillings.{level_fills};
 ghost use Rattle.allocation.specs.Levels.{below_in, items_at, matched_in, stop_in};
-ghost use Rattle.allocation.specs.Parts.{counts, customers_in};
+ghost use Rattle.allocation.specs.Parts.{counts, customers_in, total};
 ghost use Rattle.auction.specs.Records.{matches_at, stop_of};
 ghost use Rattle.settlement.specs.Writes.{HasRoom, Worked};
 
@@ -22,12 +22,14 @@ fn customers(here: &Items) -> Items
     picked(here, |item| item.customer)
 }
 
-// What all that counts here leaves of so many contracts.
-fn unmatched(here: &Items, left: u32) -> u32
-    ensures { result ≡ fold (λ rest x. rest - counts x) left here.now.items }
+// The lesser of what is left and all that counts here.
+fn matched(here: &Items, left: u32) -> u32
+    ensures { result ≡ min left (total counts here.now.items) }
 {
-    here.iter()
-        .fold(left, |rest, item| rest.saturating_sub(item.counted))
+    let rest = here
+        .iter()
+        .fold(left, |rest, item| rest.saturating_sub(item.counted));
+    left - rest
 }
 
 // What the Initiating Order takes first at a level below the stop, which this item begins.
@@ -36,7 +38,7 @@ fn own_below(auction: &Auction, first: &ContraItem, here: &Items, left: u32) -> 
     ensures most { result ≤ left }
 {
     if auction.matches(first.level) {
-        left - unmatched(here, left)
+        matched(here, left)
     } else {
         0
     }
