@@ -1,13 +1,12 @@
 -- One level, step by step.
-use Rattle.std.proofs.Common.{◌≡◌, ℕ, ◌+◌, ◌-◌, ◌≤◌, min, Bool, true, cond, fold, List, [], ◌∷◌, ◌++◌, length, ℤ, sym, refl, ap, ◌∙◌, arith}
+use Rattle.std.proofs.Common.{◌≡◌, ℕ, ◌+◌, ◌-◌, ◌≤◌, fold, List, [], ◌∷◌, ◌++◌, length, ℤ, sym, refl, ap, ◌∙◌, arith}
 use Rattle.std.proofs.lemmas.List.{append_assoc, length-append}
 use Rattle.ranked.specs.declared.contra.ContraItem.{ContraItem}
 use Rattle.ranked.specs.declared.fill.Fill.{Fill}
-use Rattle.allocation.proofs.Giving.{come_given, shared_given_le}
+use Rattle.allocation.proofs.Giving.{come_given}
 use Rattle.allocation.proofs.Sums.{total_append}
 use Rattle.allocation.specs.Deals.{Deal}
 use Rattle.allocation.specs.Fillings.{level_fills, own_fill, part_fills, unless_empty}
-use Rattle.allocation.specs.Laws.{Shares}
 use Rattle.allocation.specs.Levels.{below_in, guarantee_in, matched_in, stop_in, stop_parts}
 use Rattle.allocation.specs.Parts.{Part, after_customers, come, counts, customers_in, given_in, leaders_in, others_in, parts_in, shared, total}
 use Rattle.auction.specs.Sizes.{guarantee_of}
@@ -67,7 +66,7 @@ module _ (d : Deal) (awards : List ℕ → ℕ → List ℕ) (here cs os : List 
       level_after now a = a ∙ same
 
 -- a level below the stop
-module _ (d : Deal) (awards : List ℕ → ℕ → List ℕ) (shares : Shares awards) (price : ℤ) (here cs os : List ContraItem) (customers : cs ≡ customers_in here) (others : os ≡ others_in here) (left o : ℕ) (match : o ≡ matched_in (d.matched price) here left) (most : o ≤ left) (old m : Filling) (start : left ≡ old.left) (f : Given d (come cs (left - o)) old m) where
+module _ (d : Deal) (awards : List ℕ → ℕ → List ℕ) (price : ℤ) (here cs os : List ContraItem) (customers : cs ≡ customers_in here) (others : os ≡ others_in here) (left o : ℕ) (match : o ≡ matched_in (d.matched price) here left) (most : o ≤ left) (old m : Filling) (start : left ≡ old.left) (f : Given d (come cs (left - o)) old m) where
   below_is : level_fills d (below_in awards d price here left) ≡ part_fills d (parts_in awards here (left - o) 0) ++ unless_empty (own_fill d price o)
   below_is = ap (λ n. part_fills d (parts_in awards here (left - n) 0) ++ unless_empty (own_fill d price n)) (sym match)
 
@@ -84,12 +83,9 @@ module _ (d : Deal) (awards : List ℕ → ℕ → List ℕ) (shares : Shares aw
     pub below_groups_room : HasRoom (level_fills d (below_in awards d price here left)) old.fills.items → HasRoom (part_fills d (shared awards os (m.left - o))) m.fills.items
     below_groups_room h = groups_room d awards here cs os customers others (left - o) 0 (m.left - o) below_rest (unless_empty (own_fill d price o)) old m l f (room_here h)
 
-    module _ (g : Given d (shared awards os (m.left - o)) m l) where
-      within : total given_in (shared awards os (m.left - o)) ≤ m.left - o
-      within = shared_given_le awards shares os (m.left - o)
-
+    module _ (g : Given d (shared awards os (m.left - o)) m l) (within : m.left ≤ l.left + (m.left - o)) where
       pub below_own_enough : o ≤ l.left
-      below_own_enough = let e = g.left in omega (arith, within, below_own)
+      below_own_enough = omega (arith, below_own)
 
       pub below_own_room : (p : ℤ) → p ≡ price → HasRoom (level_fills d (below_in awards d price here left)) old.fills.items → HasRoom (unless_empty (own_fill d p o)) l.fills.items
       below_own_room p at h =
@@ -103,7 +99,7 @@ module _ (d : Deal) (awards : List ℕ → ℕ → List ℕ) (shares : Shares aw
       }
 
 -- the stop, where k is kept back for the Initiating Order
-module _ (d : Deal) (awards : List ℕ → ℕ → List ℕ) (shares : Shares awards) (here cs os : List ContraItem) (customers : cs ≡ customers_in here) (others : os ≡ others_in here) (old m : Filling) (f : Given d (come cs old.left) old m) (k n : ℕ) (count : n ≡ length (leaders_in os)) (kept : k ≡ guarantee_of d.last m.left n) where
+module _ (d : Deal) (awards : List ℕ → ℕ → List ℕ) (here cs os : List ContraItem) (customers : cs ≡ customers_in here) (others : os ≡ others_in here) (old m : Filling) (f : Given d (come cs old.left) old m) (k n : ℕ) (count : n ≡ length (leaders_in os)) (kept : k ≡ guarantee_of d.last m.left n) where
   abbrev owned : ℕ
   owned = old.left - total given_in (stop_parts awards d here old.left)
 
@@ -123,15 +119,12 @@ module _ (d : Deal) (awards : List ℕ → ℕ → List ℕ) (shares : Shares aw
     pub stop_groups_room : HasRoom (level_fills d (stop_in awards d here old.left)) old.fills.items → HasRoom (part_fills d (shared awards os (m.left - k))) m.fills.items
     stop_groups_room h = groups_room d awards here cs os customers others old.left (guarantee_in d here old.left) (m.left - k) rest_is (unless_empty (own_fill d d.stop owned)) old m l f h
 
-    module _ (g : Given d (shared awards os (m.left - k)) m l) where
-      groups_most : total given_in (shared awards os (m.left - k)) ≤ m.left - k
-      groups_most = shared_given_le awards shares os (m.left - k)
-
+    module _ (g : Given d (shared awards os (m.left - k)) m l) (within : m.left ≤ l.left + (m.left - k)) where
       given : total given_in (stop_parts awards d here old.left) ≡ total given_in (come cs old.left) + total given_in (shared awards os (m.left - k))
       given = given_here d awards here cs os customers others old.left (guarantee_in d here old.left) (m.left - k) rest_is (unless_empty (own_fill d d.stop owned))
 
       own_is : l.left ≡ owned
-      own_is = let e = f.left in let h = g.left in omega (arith, groups_most, given)
+      own_is = let e = f.left in let h = g.left in omega (arith, given)
 
       module _ (price : ℤ) (at : price ≡ d.stop) where
         fill_is : unless_empty (own_fill d price l.left) ≡ unless_empty (own_fill d d.stop owned)

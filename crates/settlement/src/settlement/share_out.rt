@@ -1,5 +1,5 @@
 // Shares contracts among the groups at a level by the share rule.
-ghost use Rattle.std.specs.Prelude.{◌≤◌};
+ghost use Rattle.std.specs.Prelude.{◌+◌, ◌≤◌};
 ghost use Rattle.allocation.specs.Deals.{deal_of};
 ghost use Rattle.allocation.specs.Fillings.{part_fills};
 ghost use Rattle.allocation.specs.Parts.{shared};
@@ -17,7 +17,8 @@ impl<S: ShareRule> Settlement<'_, S> {
         requires fits { GroupsFit groups.now.others.items }
         requires enough { q ≤ filling.old.left }
         requires room { HasRoom (part_fills (deal_of self.now.auction.now.row) (shared (S.ShareRule.awards self.now.rule.now) groups.now.others.items q)) filling.old.fills.items }
-        ensures { Given (deal_of self.now.auction.now.row) (shared (S.ShareRule.awards self.now.rule.now) groups.now.others.items q) filling.old filling.new }
+        ensures given { Given (deal_of self.now.auction.now.row) (shared (S.ShareRule.awards self.now.rule.now) groups.now.others.items q) filling.old filling.new }
+        ensures most { filling.old.left ≤ filling.new.left + q }
     {
         let sizes = groups.sizes();
         // A share rule writes into memory that it is lent.
