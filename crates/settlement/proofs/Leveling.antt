@@ -3,7 +3,6 @@ use Rattle.std.proofs.Common.{◌≡◌, ℕ, ◌+◌, ◌-◌, ◌≤◌, fold,
 use Rattle.std.proofs.lemmas.List.{append_assoc, length-append}
 use Rattle.ranked.specs.declared.contra.ContraItem.{ContraItem}
 use Rattle.ranked.specs.declared.fill.Fill.{Fill}
-use Rattle.allocation.proofs.Giving.{come_given}
 use Rattle.allocation.proofs.Sums.{total_append}
 use Rattle.allocation.specs.Deals.{Deal}
 use Rattle.allocation.specs.Fillings.{level_fills, own_fill, part_fills, unless_empty}
@@ -66,15 +65,12 @@ module _ (d : Deal) (awards : List ℕ → ℕ → List ℕ) (here cs os : List 
       level_after now a = a ∙ same
 
 -- a level below the stop
-module _ (d : Deal) (awards : List ℕ → ℕ → List ℕ) (price : ℤ) (here cs os : List ContraItem) (customers : cs ≡ customers_in here) (others : os ≡ others_in here) (left o : ℕ) (match : o ≡ matched_in (d.matched price) here left) (most : o ≤ left) (old m : Filling) (start : left ≡ old.left) (f : Given d (come cs (left - o)) old m) where
+module _ (d : Deal) (awards : List ℕ → ℕ → List ℕ) (price : ℤ) (here cs os : List ContraItem) (customers : cs ≡ customers_in here) (others : os ≡ others_in here) (left o : ℕ) (match : o ≡ matched_in (d.matched price) here left) (most : o ≤ left) (old m : Filling) (start : left ≡ old.left) (f : Given d (come cs (left - o)) old m) (kept : old.left ≤ m.left + (left - o)) where
   below_is : level_fills d (below_in awards d price here left) ≡ part_fills d (parts_in awards here (left - o) 0) ++ unless_empty (own_fill d price o)
   below_is = ap (λ n. part_fills d (parts_in awards here (left - n) 0) ++ unless_empty (own_fill d price n)) (sym match)
 
   below_rest : m.left - o ≡ after_customers here (left - o) - 0
-  below_rest = let e = f.left in omega (arith, come_given cs (left - o), ap (λ l. total given_in (come l (left - o))) customers)
-
-  pub below_own : o ≤ m.left
-  below_own = let e = f.left in omega (arith, come_given cs (left - o))
+  below_rest = let e = f.left in omega (arith, ap (λ l. total given_in (come l (left - o))) customers)
 
   room_here : HasRoom (level_fills d (below_in awards d price here left)) old.fills.items → HasRoom (part_fills d (parts_in awards here (left - o) 0) ++ unless_empty (own_fill d price o)) old.fills.items
   room_here h = omega (arith, ap length below_is)
@@ -84,9 +80,6 @@ module _ (d : Deal) (awards : List ℕ → ℕ → List ℕ) (price : ℤ) (here
     below_groups_room h = groups_room d awards here cs os customers others (left - o) 0 (m.left - o) below_rest (unless_empty (own_fill d price o)) old m l f (room_here h)
 
     module _ (g : Given d (shared awards os (m.left - o)) m l) (within : m.left ≤ l.left + (m.left - o)) where
-      pub below_own_enough : o ≤ l.left
-      below_own_enough = omega (arith, below_own)
-
       pub below_own_room : (p : ℤ) → p ≡ price → HasRoom (level_fills d (below_in awards d price here left)) old.fills.items → HasRoom (unless_empty (own_fill d p o)) l.fills.items
       below_own_room p at h =
           let room = own_room d awards here cs os customers others (left - o) 0 (m.left - o) below_rest (unless_empty (own_fill d price o)) old m l f g (room_here h) in
@@ -94,7 +87,7 @@ module _ (d : Deal) (awards : List ℕ → ℕ → List ℕ) (price : ℤ) (here
 
       pub below_worked : (p : ℤ) → p ≡ price → (now : Filling) → now.left + o ≡ l.left → now.fills.items ≡ l.fills.items ++ unless_empty (own_fill d p o) → Worked d (below_in awards d price here left) old now
       below_worked p at now less after = record {
-        left = let e = f.left in let k = g.left in omega (arith, within, below_own, given_here d awards here cs os customers others (left - o) 0 (m.left - o) below_rest (unless_empty (own_fill d price o)), ap (λ n. total given_in (parts_in awards here (left - n) 0) + n) match);
+        left = let e = f.left in let k = g.left in omega (arith, given_here d awards here cs os customers others (left - o) 0 (m.left - o) below_rest (unless_empty (own_fill d price o)), ap (λ n. total given_in (parts_in awards here (left - n) 0) + n) match);
         after = level_after d awards here cs os customers others (left - o) 0 (m.left - o) below_rest (unless_empty (own_fill d price o)) old m l f g now.fills.items (after ∙ ap (λ z. l.fills.items ++ unless_empty (own_fill d z o)) at) ∙ ap (λ fs. old.fills.items ++ fs) (sym below_is);
       }
 

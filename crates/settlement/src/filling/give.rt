@@ -69,7 +69,8 @@ impl Filling {
     pub(crate) fn give_in_turn(&mut self, auction: &Auction, items: &[ContraItem], q: u32)
         requires enough { q ≤ self.old.left }
         requires room { HasRoom (part_fills (deal_of auction.now.row) (come items.now q)) self.old.fills.items }
-        ensures { Given (deal_of auction.now.row) (come items.now q) self.old self.new }
+        ensures given { Given (deal_of auction.now.row) (come items.now q) self.old self.new }
+        ensures most { self.old.left ≤ self.new.left + q }
     {
         let mut rest = q;
         for item in items {

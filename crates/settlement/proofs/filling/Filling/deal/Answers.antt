@@ -17,7 +17,7 @@ loop-leader-preserved c =
     let v = c.loop-leader.invariant in
     let z = Zip-more c.loop-leader.leader-iterator c.next.new.self _ _ c.in-Some.is c.next.ensures.steps in
     let mine = c.deref-in-loop-leader.ensures.0 ∙ c.led_by.ensures in
-    let g = c.give_in_turn.ensures in (
+    let g = c.give_in_turn.ensures.given in (
       deal_each d others _ _ _ _ _ _ _ v.0 v.1 v.2 _ _ _ _ z.0 z.1 _ mine _ _ g.left g.after v.3,
       deal_same d others _ _ _ _ _ _ _ v.0 v.1 v.2 _ _ _ _ z.0 z.1 _ mine _ _ g.left g.after v.3,
       deal_sums d others _ _ _ _ _ _ _ v.0 v.1 v.2 _ _ _ _ z.0 z.1 _ mine _ _ g.left g.after v.3,

@@ -1,3 +1,5 @@
+use Rattle.std.proofs.Common.{arith}
+use Rattle.allocation.proofs.Giving.{come_given}
 use Rattle.allocation.specs.Deals.{deal_of}
 use Rattle.settlement.proofs.Giving.{give_left, give_room, give_same, give_sums, given_all, given_left}
 use Rattle.settlement.proofs.filling.Filling.give_in_turn.Goals as goal
@@ -21,7 +23,8 @@ pub returns : goal.returns
 returns c =
     let d = deal_of c.args.auction.now.row in
     let i = c.loop-item.invariant in
+    let less = given_left d c.args.items.now _ c.args.q c.loop-item.rest _ _ _ _ i.0 i.1 c.loop-item-test.false in
     record {
-      left = given_left d c.args.items.now _ c.args.q c.loop-item.rest _ _ _ _ i.0 i.1 c.loop-item-test.false;
-      after = given_all d c.args.items.now _ c.args.q c.loop-item.rest _ _ _ _ i.0 i.1 c.loop-item-test.false;
+      given = record { left = less; after = given_all d c.args.items.now _ c.args.q c.loop-item.rest _ _ _ _ i.0 i.1 c.loop-item-test.false };
+      most = omega (arith, come_given c.args.items.now c.args.q);
     }
