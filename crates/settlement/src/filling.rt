@@ -4,8 +4,7 @@ ghost use Rattle.std.specs.Prelude.{◌≤◌};
 use arrayvec::ArrayVec;
 use ranked::fill::Fill;
 
-mod deal;
-mod give;
+mod add;
 
 // So many fills a settlement may write: two for each of 128 items, and one at the stop.
 pub(crate) const MOST_FILLS: usize = 257;

@@ -14,7 +14,7 @@ share_out-requires-clause-room g c =
     let sized : SFits w32 level = search rules in
     let h = c.at_level-here.ensures ∙ ap (λ z. items_at z c.args.self.now.items.now) (to_z-of_z w32 level sized) in
     let o = c.own_below-own.ensures in
-    below_groups_room (deal_of a) (g.S.ShareRule.awards c.args.self.now.rule.now) level (items_at level c.args.self.now.items.now) c.deref.result.now c.among.result.others.items (c.deref.ensures.0 ∙ (c.customers.ensures ∙ ap customers_in h)) (c.among.ensures ∙ ap others_in h) c.args.filling.now.left c.own_below-own.result (o.value ∙ ap (λ l. matched_in (matches_at a level) l c.args.filling.now.left) h) o.most _ _ refl c.give_in_turn.ensures.given c.give_in_turn.ensures.most c.give_in_turn.new.self c.requires
+    below_groups_room (deal_of a) (g.S.ShareRule.awards c.args.self.now.rule.now) level (items_at level c.args.self.now.items.now) c.deref.result.now c.among.result.others.items (c.deref.ensures.0 ∙ (c.customers.ensures ∙ ap customers_in h)) (c.among.ensures ∙ ap others_in h) c.args.filling.now.left c.own_below-own.result (o.value ∙ ap (λ l. matched_in (matches_at a level) l c.args.filling.now.left) h) o.most _ _ refl c.give_in_turn.ensures.given c.give_in_turn.ensures.most c.give_in_turn.new.filling c.requires
 
 pub give_own-requires-clause-room : goal.give_own-requires-clause-room
 give_own-requires-clause-room g c =

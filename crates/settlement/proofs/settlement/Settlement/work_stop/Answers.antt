@@ -13,7 +13,7 @@ share_out-requires-clause-room g c =
     let same = to_z-of_z w32 c.stop-stop.result sized ∙ c.stop-stop.ensures.value in
     let h = c.at_level-here.ensures ∙ ap (λ z. items_at z c.args.self.now.items.now) same in
     let groups = c.among-groups.result in
-    stop_groups_room d (g.S.ShareRule.awards c.args.self.now.rule.now) (items_at d.stop c.args.self.now.items.now) c.deref.result.now groups.others.items (c.deref.ensures.0 ∙ (c.customers.ensures ∙ ap customers_in h)) (c.among-groups.ensures ∙ ap others_in h) _ _ c.give_in_turn.ensures.given _ _ (c.len.ensures.value ∙ ap length groups.led) c.guarantee-kept.ensures.value c.give_in_turn.new.self c.requires
+    stop_groups_room d (g.S.ShareRule.awards c.args.self.now.rule.now) (items_at d.stop c.args.self.now.items.now) c.deref.result.now groups.others.items (c.deref.ensures.0 ∙ (c.customers.ensures ∙ ap customers_in h)) (c.among-groups.ensures ∙ ap others_in h) _ _ c.give_in_turn.ensures.given _ _ (c.len.ensures.value ∙ ap length groups.led) c.guarantee-kept.ensures.value c.give_in_turn.new.filling c.requires
 
 pub give_own-requires-clause-room : goal.give_own-requires-clause-room
 give_own-requires-clause-room g c =
