@@ -38,7 +38,7 @@ take_over : {X : Type 0} (new old now : List X) (n : ℕ) → n ≡ length new �
 take_over new old now n e f = ap (take n) f ∙ take_at new _ n (sym e)
 
 -- the first n of the list are the contra items of an auction
-module _ (awards : List ℕ → ℕ → List ℕ) (shares : Shares awards) (a : AuctionRow) (ok : sound a ≡ true) (orders : List Order) (responses : List Response) {F : Type 0} (old list : List ContraItem) (n : ℕ) (answer : ◌≡◌ {A = Said ℕ F} (answered n) (contra_said (length old) (length (contra_of a orders responses)))) (after : list ≡ over (contra_of a orders responses) old) (law : Contra a orders responses (take n list)) where
+module _ (awards : List ℕ → ℕ → List ℕ) (a : AuctionRow) (ok : sound a ≡ true) (orders : List Order) (responses : List Response) {F : Type 0} (old list : List ContraItem) (n : ℕ) (answer : ◌≡◌ {A = Said ℕ F} (answered n) (contra_said (length old) (length (contra_of a orders responses)))) (after : list ≡ over (contra_of a orders responses) old) (law : Contra a orders responses (take n list)) where
   abbrev items : List ContraItem
   items = contra_of a orders responses
 
@@ -57,8 +57,8 @@ module _ (awards : List ℕ → ℕ → List ℕ) (shares : Shares awards) (a : 
   pub close_fits : a.size ≤ 100000 → LevelsFit (take n list)
   close_fits most = subst LevelsFit (sym here) (λ price x. omega (arith, groups_at a orders responses price x))
 
-  pub close_most : length fills ≤ 257
-  close_most = omega (arith, ap (λ xs. length (fills_of awards (deal_of a) xs)) here, fills_most awards shares a ok orders responses lawful)
+  pub close_most : Shares awards → length fills ≤ 257
+  close_most shares = omega (arith, ap (λ xs. length (fills_of awards (deal_of a) xs)) here, fills_most awards shares a ok orders responses lawful)
 
   pub close_filled : AllByRecursion (ItemTurns a.side) items → SFits w32 a.stop → AllByRecursion (FillTurns a.side) fills
   close_filled turns stop =
@@ -66,8 +66,8 @@ module _ (awards : List ℕ → ℕ → List ℕ) (shares : Shares awards) (a : 
       fills_turn awards a (take n list) t (stop_turns a stop)
 
   -- both lists were shown
-  pub close_law : (ys rest : List ContraItem) (before now : List Fill) (m : ℕ) → ys ≡ shown_items a (take n list) → m ≡ length fills → now ≡ over (shown_fills a fills) before → Outcome awards a orders responses (take n (ys ++ rest)) (take m now)
-  close_law ys rest before now m e k f =
+  pub close_law : Shares awards → (ys rest : List ContraItem) (before now : List Fill) (m : ℕ) → ys ≡ shown_items a (take n list) → m ≡ length fills → now ≡ over (shown_fills a fills) before → Outcome awards a orders responses (take n (ys ++ rest)) (take m now)
+  close_law shares ys rest before now m e k f =
       let long : n ≡ length ys = omega (arith, count, ap length here, ap length e, length-map (take n list) (shown_item a.side)) in
       let x : take n (ys ++ rest) ≡ shown_items a items = take_at ys rest n (sym long) ∙ (e ∙ ap (shown_items a) here) in
       let y : take m now ≡ shown_fills a (fills_of awards (deal_of a) items) =

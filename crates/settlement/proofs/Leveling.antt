@@ -1,13 +1,11 @@
 -- One level, step by step.
-use Rattle.std.proofs.Common.{◌≡◌, ℕ, ◌+◌, ◌-◌, ◌≤◌, min, Bool, true, cond, fold, List, [], ◌∷◌, ◌++◌, length, ℤ, sym, refl, ap, ◌∙◌, arith}
+use Rattle.std.proofs.Common.{◌≡◌, ℕ, ◌+◌, ◌-◌, ◌≤◌, fold, List, [], ◌∷◌, ◌++◌, length, ℤ, sym, refl, ap, ◌∙◌, arith}
 use Rattle.std.proofs.lemmas.List.{append_assoc, length-append}
 use Rattle.ranked.specs.declared.contra.ContraItem.{ContraItem}
 use Rattle.ranked.specs.declared.fill.Fill.{Fill}
-use Rattle.allocation.proofs.Giving.{come_given, shared_given_le}
 use Rattle.allocation.proofs.Sums.{total_append}
 use Rattle.allocation.specs.Deals.{Deal}
 use Rattle.allocation.specs.Fillings.{level_fills, own_fill, part_fills, unless_empty}
-use Rattle.allocation.specs.Laws.{Shares}
 use Rattle.allocation.specs.Levels.{below_in, guarantee_in, matched_in, stop_in, stop_parts}
 use Rattle.allocation.specs.Parts.{Part, after_customers, come, counts, customers_in, given_in, leaders_in, others_in, parts_in, shared, total}
 use Rattle.auction.specs.Sizes.{guarantee_of}
@@ -21,11 +19,6 @@ pub unmatched_left : (xs : List ContraItem) (left : ℕ) → fold (λ rest x. re
 unfolding total
 unmatched_left [] left = omega arith
 unmatched_left (x ∷ xs) left = unmatched_left xs (left - x.counted) ∙ (let z : left - x.counted - total counts xs ≡ left - (x.counted + total counts xs) = omega arith in z)
-
-pub all_matched : (b : Bool) (here : List ContraItem) (left r : ℕ) → true ≡ b → r ≡ fold (λ rest x. rest - counts x) left here → left - r ≡ matched_in b here left
-all_matched b here left r e f =
-    let z : left - r ≡ min left (total counts here) = omega (arith, unmatched_left here left) in
-    z ∙ ap (λ t. cond t (min left (total counts here)) 0) e
 
 -- the fills of a level: customers, then groups, then what is the Initiating Order's
 module _ (d : Deal) (awards : List ℕ → ℕ → List ℕ) (here cs os : List ContraItem) (customers : cs ≡ customers_in here) (others : os ≡ others_in here) (q kept x : ℕ) (groups : x ≡ after_customers here q - kept) (own : List Fill) where
@@ -72,15 +65,12 @@ module _ (d : Deal) (awards : List ℕ → ℕ → List ℕ) (here cs os : List 
       level_after now a = a ∙ same
 
 -- a level below the stop
-module _ (d : Deal) (awards : List ℕ → ℕ → List ℕ) (shares : Shares awards) (price : ℤ) (here cs os : List ContraItem) (customers : cs ≡ customers_in here) (others : os ≡ others_in here) (left o : ℕ) (match : o ≡ matched_in (d.matched price) here left) (most : o ≤ left) (old m : Filling) (start : left ≡ old.left) (f : Given d (come cs (left - o)) old m) where
+module _ (d : Deal) (awards : List ℕ → ℕ → List ℕ) (price : ℤ) (here cs os : List ContraItem) (customers : cs ≡ customers_in here) (others : os ≡ others_in here) (left o : ℕ) (match : o ≡ matched_in (d.matched price) here left) (most : o ≤ left) (old m : Filling) (start : left ≡ old.left) (f : Given d (come cs (left - o)) old m) (kept : old.left ≤ m.left + (left - o)) where
   below_is : level_fills d (below_in awards d price here left) ≡ part_fills d (parts_in awards here (left - o) 0) ++ unless_empty (own_fill d price o)
   below_is = ap (λ n. part_fills d (parts_in awards here (left - n) 0) ++ unless_empty (own_fill d price n)) (sym match)
 
   below_rest : m.left - o ≡ after_customers here (left - o) - 0
-  below_rest = let e = f.left in omega (arith, come_given cs (left - o), ap (λ l. total given_in (come l (left - o))) customers)
-
-  pub below_own : o ≤ m.left
-  below_own = let e = f.left in omega (arith, come_given cs (left - o))
+  below_rest = let e = f.left in omega (arith, ap (λ l. total given_in (come l (left - o))) customers)
 
   room_here : HasRoom (level_fills d (below_in awards d price here left)) old.fills.items → HasRoom (part_fills d (parts_in awards here (left - o) 0) ++ unless_empty (own_fill d price o)) old.fills.items
   room_here h = omega (arith, ap length below_is)
@@ -89,13 +79,7 @@ module _ (d : Deal) (awards : List ℕ → ℕ → List ℕ) (shares : Shares aw
     pub below_groups_room : HasRoom (level_fills d (below_in awards d price here left)) old.fills.items → HasRoom (part_fills d (shared awards os (m.left - o))) m.fills.items
     below_groups_room h = groups_room d awards here cs os customers others (left - o) 0 (m.left - o) below_rest (unless_empty (own_fill d price o)) old m l f (room_here h)
 
-    module _ (g : Given d (shared awards os (m.left - o)) m l) where
-      within : total given_in (shared awards os (m.left - o)) ≤ m.left - o
-      within = shared_given_le awards shares os (m.left - o)
-
-      pub below_own_enough : o ≤ l.left
-      below_own_enough = let e = g.left in omega (arith, within, below_own)
-
+    module _ (g : Given d (shared awards os (m.left - o)) m l) (within : m.left ≤ l.left + (m.left - o)) where
       pub below_own_room : (p : ℤ) → p ≡ price → HasRoom (level_fills d (below_in awards d price here left)) old.fills.items → HasRoom (unless_empty (own_fill d p o)) l.fills.items
       below_own_room p at h =
           let room = own_room d awards here cs os customers others (left - o) 0 (m.left - o) below_rest (unless_empty (own_fill d price o)) old m l f g (room_here h) in
@@ -103,12 +87,12 @@ module _ (d : Deal) (awards : List ℕ → ℕ → List ℕ) (shares : Shares aw
 
       pub below_worked : (p : ℤ) → p ≡ price → (now : Filling) → now.left + o ≡ l.left → now.fills.items ≡ l.fills.items ++ unless_empty (own_fill d p o) → Worked d (below_in awards d price here left) old now
       below_worked p at now less after = record {
-        left = let e = f.left in let k = g.left in omega (arith, within, below_own, given_here d awards here cs os customers others (left - o) 0 (m.left - o) below_rest (unless_empty (own_fill d price o)), ap (λ n. total given_in (parts_in awards here (left - n) 0) + n) match);
+        left = let e = f.left in let k = g.left in omega (arith, given_here d awards here cs os customers others (left - o) 0 (m.left - o) below_rest (unless_empty (own_fill d price o)), ap (λ n. total given_in (parts_in awards here (left - n) 0) + n) match);
         after = level_after d awards here cs os customers others (left - o) 0 (m.left - o) below_rest (unless_empty (own_fill d price o)) old m l f g now.fills.items (after ∙ ap (λ z. l.fills.items ++ unless_empty (own_fill d z o)) at) ∙ ap (λ fs. old.fills.items ++ fs) (sym below_is);
       }
 
 -- the stop, where k is kept back for the Initiating Order
-module _ (d : Deal) (awards : List ℕ → ℕ → List ℕ) (shares : Shares awards) (here cs os : List ContraItem) (customers : cs ≡ customers_in here) (others : os ≡ others_in here) (old m : Filling) (f : Given d (come cs old.left) old m) (k n : ℕ) (count : n ≡ length (leaders_in os)) (kept : k ≡ guarantee_of d.last m.left n) where
+module _ (d : Deal) (awards : List ℕ → ℕ → List ℕ) (here cs os : List ContraItem) (customers : cs ≡ customers_in here) (others : os ≡ others_in here) (old m : Filling) (f : Given d (come cs old.left) old m) (k n : ℕ) (count : n ≡ length (leaders_in os)) (kept : k ≡ guarantee_of d.last m.left n) where
   abbrev owned : ℕ
   owned = old.left - total given_in (stop_parts awards d here old.left)
 
@@ -128,15 +112,12 @@ module _ (d : Deal) (awards : List ℕ → ℕ → List ℕ) (shares : Shares aw
     pub stop_groups_room : HasRoom (level_fills d (stop_in awards d here old.left)) old.fills.items → HasRoom (part_fills d (shared awards os (m.left - k))) m.fills.items
     stop_groups_room h = groups_room d awards here cs os customers others old.left (guarantee_in d here old.left) (m.left - k) rest_is (unless_empty (own_fill d d.stop owned)) old m l f h
 
-    module _ (g : Given d (shared awards os (m.left - k)) m l) where
-      groups_most : total given_in (shared awards os (m.left - k)) ≤ m.left - k
-      groups_most = shared_given_le awards shares os (m.left - k)
-
+    module _ (g : Given d (shared awards os (m.left - k)) m l) (within : m.left ≤ l.left + (m.left - k)) where
       given : total given_in (stop_parts awards d here old.left) ≡ total given_in (come cs old.left) + total given_in (shared awards os (m.left - k))
       given = given_here d awards here cs os customers others old.left (guarantee_in d here old.left) (m.left - k) rest_is (unless_empty (own_fill d d.stop owned))
 
       own_is : l.left ≡ owned
-      own_is = let e = f.left in let h = g.left in omega (arith, groups_most, given)
+      own_is = let e = f.left in let h = g.left in omega (arith, given)
 
       module _ (price : ℤ) (at : price ≡ d.stop) where
         fill_is : unless_empty (own_fill d price l.left) ≡ unless_empty (own_fill d d.stop owned)

@@ -1,5 +1,5 @@
 -- The awards that a share rule writes for the groups.
-use Rattle.std.proofs.Common.{◌≡◌, ℕ, ◌≤◌, min, true, cond, leb, List, [], ◌∷◌, ◌++◌, map, length, take, drop, is_ok, Ok, Err, Result, sym, refl, ap, ◌∙◌, subst, arith}
+use Rattle.std.proofs.Common.{◌≡◌, ℕ, ◌+◌, ◌≤◌, min, true, cond, leb, List, [], ◌∷◌, ◌++◌, map, length, take, drop, is_ok, Ok, Err, Result, sym, refl, ap, ◌∙◌, subst, arith}
 use Rattle.std.proofs.lemmas.List.{take_at}
 use Rattle.std.proofs.lemmas.Bool.{and_from, cond-true, le-leb}
 use Rattle.terms.specs.Refusals.{answered, said}
@@ -8,6 +8,7 @@ use Rattle.ranked.specs.declared.contra.ContraItem.{ContraItem}
 use Rattle.share.specs.Awards as share
 use Rattle.share.specs.Requests.{share_fits, share_said, sizes_fit}
 use Rattle.ranked.specs.declared.fill.Fill.{Fill}
+use Rattle.allocation.proofs.Giving.{shared_given_le}
 use Rattle.allocation.specs.Deals.{Deal}
 use Rattle.allocation.specs.Fillings.{part_fills}
 use Rattle.allocation.specs.Laws.{Shares}
@@ -62,5 +63,8 @@ module _ (awards : List ℕ → ℕ → List ℕ) (shares : Shares awards) (othe
     pub share_room : (d : Deal) (before : List Fill) → HasRoom (part_fills d (shared awards others q)) before → HasRoom (part_fills d (dealt others leaders (take n given))) before
     share_room d before h = omega (arith, ap (λ l. length (part_fills d l)) all_dealt)
 
-    pub share_given : (d : Deal) (before now : Filling) → Given d (dealt others leaders (take n given)) before now → Given d (shared awards others q) before now
-    share_given d before now f = let P : List Part → Type 0 = λ ps. Given d ps before now in subst P all_dealt f
+    pub share_given : (d : Deal) (before now : Filling) → Given d (dealt others leaders (take n given)) before now → Given d (shared awards others q) before now × (before.left ≤ now.left + q)
+    share_given d before now f =
+        let P : List Part → Type 0 = λ ps. Given d ps before now in
+        let g = subst P all_dealt f in
+        (g, let e = g.left in omega (arith, shared_given_le awards shares others q))

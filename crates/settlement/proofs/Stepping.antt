@@ -35,10 +35,11 @@ module _ (awards : List ℕ → ℕ → List ℕ) (d : Deal) (items : List Contr
   abbrev pub rest_fills : List ContraItem → ℕ → List Fill
   rest_fills ks left = flat_map (level_fills d) (levels_from awards d items ks left)
 
-  pub at_start : (new : Filling) (ks : List ContraItem) → new.fills.items ≡ [] → new.left ≡ d.size → ks ≡ beginnings d [] items → new.fills.items ++ rest_fills ks new.left ≡ fills_of awards d items
-  at_start new ks e f g =
+  -- nothing is written yet
+  pub at_start : (new : Filling) (ks firsts : List ContraItem) (size : ℕ) → new.fills.items ≡ [] → new.left ≡ size → size ≡ d.size → ks ≡ firsts → firsts ≡ beginnings d [] items → new.fills.items ++ rest_fills ks new.left ≡ fills_of awards d items
+  at_start new ks firsts size e f s g h =
       ap (λ l. l ++ rest_fills ks new.left) e
-      ∙ (ap (λ n. rest_fills ks n) f ∙ ap (λ l. rest_fills l d.size) g)
+      ∙ (ap (λ n. rest_fills ks n) (f ∙ s) ∙ ap (λ l. rest_fills l d.size) (g ∙ h))
 
   -- the levels that ks begin are still to be worked
   module _ (ks : List ContraItem) (now : Filling) (same : now.fills.items ++ rest_fills ks now.left ≡ fills_of awards d items) where

@@ -5,6 +5,7 @@ ghost use Rattle.settlement.specs.Groups.{LevelsFit};
 use auction::record::Auction;
 use ranked::contra::ContraItem;
 
+mod give;
 mod level;
 mod levels;
 mod share_out;

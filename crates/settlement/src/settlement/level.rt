@@ -1,9 +1,9 @@
 // Works one level: who is given what at one price.
-ghost use Rattle.std.specs.Prelude.{◌≡◌, ◌-◌, ◌≤◌, fold};
+ghost use Rattle.std.specs.Prelude.{◌≡◌, ◌≤◌, min};
 ghost use Rattle.allocation.specs.Deals.{deal_of};
 ghost use Rattle.allocation.specs.Fillings.{level_fills};
 ghost use Rattle.allocation.specs.Levels.{below_in, items_at, matched_in, stop_in};
-ghost use Rattle.allocation.specs.Parts.{counts, customers_in};
+ghost use Rattle.allocation.specs.Parts.{counts, customers_in, total};
 ghost use Rattle.auction.specs.Records.{matches_at, stop_of};
 ghost use Rattle.settlement.specs.Writes.{HasRoom, Worked};
 
@@ -11,7 +11,6 @@ use super::Settlement;
 use crate::filling::Filling;
 use crate::group::Groups;
 use crate::pick::{Items, picked};
-use auction::record::Auction;
 use ranked::contra::ContraItem;
 use share::rule::ShareRule;
 
@@ -22,24 +21,14 @@ fn customers(here: &Items) -> Items
     picked(here, |item| item.customer)
 }
 
-// What all that counts here leaves of so many contracts.
-fn unmatched(here: &Items, left: u32) -> u32
-    ensures { result ≡ fold (λ rest x. rest - counts x) left here.now.items }
+// The lesser of what is left and all that counts here.
+fn matched(here: &Items, left: u32) -> u32
+    ensures { result ≡ min left (total counts here.now.items) }
 {
-    here.iter()
-        .fold(left, |rest, item| rest.saturating_sub(item.counted))
-}
-
-// What the Initiating Order takes first at a level below the stop, which this item begins.
-fn own_below(auction: &Auction, first: &ContraItem, here: &Items, left: u32) -> u32
-    ensures value { result ≡ matched_in (matches_at auction.now.row first.now.level) here.now.items left }
-    ensures most { result ≤ left }
-{
-    if auction.matches(first.level) {
-        left - unmatched(here, left)
-    } else {
-        0
-    }
+    let rest = here
+        .iter()
+        .fold(left, |rest, item| rest.saturating_sub(item.counted));
+    left - rest
 }
 
 impl<S> Settlement<'_, S> {
@@ -48,6 +37,18 @@ impl<S> Settlement<'_, S> {
         ensures { result.items ≡ items_at level self.now.items.now }
     {
         picked(self.items, |item| level == item.level)
+    }
+
+    // What the Initiating Order takes first at a level below the stop, which this item begins.
+    fn own_below(&self, first: &ContraItem, here: &Items, left: u32) -> u32
+        ensures value { result ≡ matched_in (matches_at self.now.auction.now.row first.now.level) here.now.items left }
+        ensures most { result ≤ left }
+    {
+        if self.auction.matches(first.level) {
+            matched(here, left)
+        } else {
+            0
+        }
     }
 }
 
@@ -59,12 +60,12 @@ impl<S: ShareRule> Settlement<'_, S> {
         ensures { Worked (deal_of self.now.auction.now.row) (below_in (S.ShareRule.awards self.now.rule.now) (deal_of self.now.auction.now.row) first.now.level (items_at first.now.level self.now.items.now) filling.old.left) filling.old filling.new }
     {
         let here = self.at_level(first.level);
-        let own = own_below(self.auction, first, &here, filling.left);
+        let own = self.own_below(first, &here, filling.left);
         let others = filling.left - own;
-        filling.give_in_turn(self.auction, &customers(&here), others);
+        self.give_in_turn(&customers(&here), others, filling);
         let rest = filling.left - own;
         self.share_out(&Groups::among(&here), rest, filling);
-        filling.give_own(self.auction, first.level, own);
+        self.give_own(first.level, own, filling);
     }
 
     // Works the stop: customers by number, the Initiating Order's guarantee, groups, and the rest to
@@ -76,12 +77,12 @@ impl<S: ShareRule> Settlement<'_, S> {
         let stop = self.auction.stop();
         let here = self.at_level(stop);
         let left = filling.left;
-        filling.give_in_turn(self.auction, &customers(&here), left);
+        self.give_in_turn(&customers(&here), left, filling);
         let groups = Groups::among(&here);
         let kept = self.auction.guarantee(filling.left, groups.leaders.len());
         let rest = filling.left - kept;
         self.share_out(&groups, rest, filling);
         let own = filling.left;
-        filling.give_own(self.auction, stop, own);
+        self.give_own(stop, own, filling);
     }
 }

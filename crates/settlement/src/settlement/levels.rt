@@ -2,21 +2,28 @@
 ghost use Rattle.std.specs.Prelude.{◌≡◌, ◌≤◌, [], length};
 ghost use Rattle.allocation.specs.Deals.{deal_of};
 ghost use Rattle.allocation.specs.Fillings.{fills_of};
-ghost use Rattle.allocation.specs.Levels.{beginnings};
+ghost use Rattle.allocation.specs.Levels.{beginnings, below_stop};
 
 use super::Settlement;
 use crate::filling::{Filling, Fills};
 use crate::pick::{Items, firsts, picked};
+use ranked::contra::ContraItem;
 use share::rule::ShareRule;
 
 impl<S> Settlement<'_, S> {
+    // Whether an item trades below the stop.
+    fn is_below(&self, item: &ContraItem) -> bool
+        ensures { result ≡ below_stop (deal_of self.now.auction.now.row) item.now }
+    {
+        item.level < self.auction.stop()
+    }
+
     // The first item of each level below the stop.
     fn beginnings(&self) -> Items
         ensures { result.items ≡ beginnings (deal_of self.now.auction.now.row) [] self.now.items.now }
     {
-        let stop = self.auction.stop();
         let firsts = firsts(self.items, |item, other| item.level == other.level);
-        picked(&firsts, |item| item.level < stop)
+        picked(&firsts, |item| self.is_below(item))
     }
 }
 

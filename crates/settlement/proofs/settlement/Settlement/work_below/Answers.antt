@@ -4,36 +4,20 @@ use Rattle.allocation.specs.Deals.{deal_of}
 use Rattle.allocation.specs.Levels.{items_at, matched_in}
 use Rattle.allocation.specs.Parts.{customers_in, others_in}
 use Rattle.auction.specs.Records.{matches_at}
-use Rattle.settlement.proofs.Leveling.{below_groups_room, below_own, below_own_enough, below_own_room, below_worked}
-use Rattle.settlement.proofs.Sharing.{shares_by}
+use Rattle.settlement.proofs.Leveling.{below_groups_room, below_own_room, below_worked}
 use Rattle.settlement.proofs.settlement.Settlement.work_below.Goals as goal
-
-pub overflow_sub-rest : goal.overflow_sub-rest
-overflow_sub-rest g c =
-    let laws = g.met.S.ShareRule in
-    let shares = shares_by g.S.ShareRule.awards laws.each laws.within laws.spent c.args.self.now.rule.now in
-    let a = c.args.self.now.auction.now.row in
-    let level = c.args.first.now.level in
-    let sized : SFits w32 level = search rules in
-    let h = c.at_level-here.ensures ∙ ap (λ z. items_at z c.args.self.now.items.now) (to_z-of_z w32 level sized) in
-    let o = c.own_below-own.ensures in
-    below_own (deal_of a) _ shares level (items_at level c.args.self.now.items.now) c.deref.result.now (others_in (items_at level c.args.self.now.items.now)) (c.deref.ensures.0 ∙ (c.customers.ensures ∙ ap customers_in h)) refl c.args.filling.now.left c.own_below-own.result (o.value ∙ ap (λ l. matched_in (matches_at a level) l c.args.filling.now.left) h) o.most _ _ refl c.give_in_turn.ensures
 
 pub share_out-requires-clause-room : goal.share_out-requires-clause-room
 share_out-requires-clause-room g c =
-    let laws = g.met.S.ShareRule in
-    let shares = shares_by g.S.ShareRule.awards laws.each laws.within laws.spent c.args.self.now.rule.now in
     let a = c.args.self.now.auction.now.row in
     let level = c.args.first.now.level in
     let sized : SFits w32 level = search rules in
     let h = c.at_level-here.ensures ∙ ap (λ z. items_at z c.args.self.now.items.now) (to_z-of_z w32 level sized) in
     let o = c.own_below-own.ensures in
-    below_groups_room (deal_of a) _ shares level (items_at level c.args.self.now.items.now) c.deref.result.now c.among.result.others.items (c.deref.ensures.0 ∙ (c.customers.ensures ∙ ap customers_in h)) (c.among.ensures ∙ ap others_in h) c.args.filling.now.left c.own_below-own.result (o.value ∙ ap (λ l. matched_in (matches_at a level) l c.args.filling.now.left) h) o.most _ _ refl c.give_in_turn.ensures c.give_in_turn.new.self c.requires
+    below_groups_room (deal_of a) (g.S.ShareRule.awards c.args.self.now.rule.now) level (items_at level c.args.self.now.items.now) c.deref.result.now c.among.result.others.items (c.deref.ensures.0 ∙ (c.customers.ensures ∙ ap customers_in h)) (c.among.ensures ∙ ap others_in h) c.args.filling.now.left c.own_below-own.result (o.value ∙ ap (λ l. matched_in (matches_at a level) l c.args.filling.now.left) h) o.most _ _ refl c.give_in_turn.ensures.given c.give_in_turn.ensures.most c.give_in_turn.new.filling c.requires
 
-pub give_own-requires : goal.give_own-requires
-give_own-requires g c =
-    let laws = g.met.S.ShareRule in
-    let shares = shares_by g.S.ShareRule.awards laws.each laws.within laws.spent c.args.self.now.rule.now in
+pub give_own-requires-clause-room : goal.give_own-requires-clause-room
+give_own-requires-clause-room g c =
     let a = c.args.self.now.auction.now.row in
     let level = c.args.first.now.level in
     let sized : SFits w32 level = search rules in
@@ -42,15 +26,10 @@ give_own-requires g c =
     let o = c.own_below-own.ensures in
     let customers = c.deref.ensures.0 ∙ (c.customers.ensures ∙ ap customers_in h) in
     let match = o.value ∙ ap (λ l. matched_in (matches_at a level) l c.args.filling.now.left) h in
-    record {
-      enough = below_own_enough (deal_of a) _ shares level (items_at level c.args.self.now.items.now) c.deref.result.now c.among.result.others.items customers (c.among.ensures ∙ ap others_in h) c.args.filling.now.left c.own_below-own.result match o.most _ _ refl c.give_in_turn.ensures _ c.share_out.ensures;
-      room = below_own_room (deal_of a) _ shares level (items_at level c.args.self.now.items.now) c.deref.result.now c.among.result.others.items customers (c.among.ensures ∙ ap others_in h) c.args.filling.now.left c.own_below-own.result match o.most _ _ refl c.give_in_turn.ensures _ c.share_out.ensures _ same c.requires;
-    }
+    below_own_room (deal_of a) (g.S.ShareRule.awards c.args.self.now.rule.now) level (items_at level c.args.self.now.items.now) c.deref.result.now c.among.result.others.items customers (c.among.ensures ∙ ap others_in h) c.args.filling.now.left c.own_below-own.result match o.most _ _ refl c.give_in_turn.ensures.given c.give_in_turn.ensures.most _ c.share_out.ensures.given c.share_out.ensures.most _ same c.requires
 
 pub returns : goal.returns
 returns g c =
-    let laws = g.met.S.ShareRule in
-    let shares = shares_by g.S.ShareRule.awards laws.each laws.within laws.spent c.args.self.now.rule.now in
     let a = c.args.self.now.auction.now.row in
     let level = c.args.first.now.level in
     let sized : SFits w32 level = search rules in
@@ -60,4 +39,4 @@ returns g c =
     let customers = c.deref.ensures.0 ∙ (c.customers.ensures ∙ ap customers_in h) in
     let match = o.value ∙ ap (λ l. matched_in (matches_at a level) l c.args.filling.now.left) h in
     let own = c.give_own.ensures in
-    below_worked (deal_of a) _ shares level (items_at level c.args.self.now.items.now) c.deref.result.now c.among.result.others.items customers (c.among.ensures ∙ ap others_in h) c.args.filling.now.left c.own_below-own.result match o.most _ _ refl c.give_in_turn.ensures _ c.share_out.ensures _ same _ own.left own.after
+    below_worked (deal_of a) (g.S.ShareRule.awards c.args.self.now.rule.now) level (items_at level c.args.self.now.items.now) c.deref.result.now c.among.result.others.items customers (c.among.ensures ∙ ap others_in h) c.args.filling.now.left c.own_below-own.result match o.most _ _ refl c.give_in_turn.ensures.given c.give_in_turn.ensures.most _ c.share_out.ensures.given c.share_out.ensures.most _ same _ own.left own.after
