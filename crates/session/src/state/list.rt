@@ -19,20 +19,7 @@ impl<M: Market, S> Session<M, S> {
         self.unless_due(self.phase.is_listing())?;
         // A closure, for the plain value would have to be one that can be dropped.
         let strategy = Strategy::new(legs).ok_or_else(|| Refusal::Range)?;
-        if self.strategies.is_full() {
-            return Err(Refusal::Full);
-        }
-        Ok(self.enlist(strategy))
-    }
-
-    // Puts a strategy behind those listed, and gives its number.
-    fn enlist(&mut self, strategy: Strategy) -> u32
-        requires { nat_le 8 (length (view M.Market.model self.old).strategies) ≡ false }
-        ensures value { result ≡ length (view M.Market.model self.old).strategies + 1 }
-        ensures after { view M.Market.model self.new ≡ with_strategies (view M.Market.model self.old) ((view M.Market.model self.old).strategies ++ (legs_of strategy ∷ [])) }
-    {
-        let count = self.strategies.entries().len();
-        let _added = self.strategies.add(strategy);
-        count as u32 + 1
+        self.strategies.add(strategy).map_err(|_| Refusal::Full)?;
+        Ok(self.strategies.entries().len() as u32)
     }
 }
