@@ -1,7 +1,4 @@
-ghost use Rattle.std.specs.Prelude.{◌≡◌, ◌+◌, false, [], ◌∷◌, ◌++◌, length, nat_le};
 ghost use Rattle.terms.specs.Refusals.{said};
-ghost use Rattle.terms.specs.Strategies.{legs_of};
-ghost use Rattle.session.specs.States.{with_strategies};
 ghost use Rattle.session.specs.Steps.{Does, list_step};
 ghost use Rattle.session.specs.Views.{view};
 
