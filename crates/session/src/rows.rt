@@ -1,5 +1,5 @@
 // Counts over the tables of a session.
-ghost use Rattle.std.specs.Prelude.{◌≡◌, ◌≤◌, map, length, sum_by, count_by};
+ghost use Rattle.std.specs.Prelude.{◌≡◌, ◌≤◌, map, sum_by, count_by};
 ghost use Rattle.std.specs.Option.{option_map};
 ghost use Rattle.terms.specs.Tables.{entries};
 ghost use Rattle.terms.specs.Strategies.{legs_of};

@@ -1,4 +1,4 @@
-ghost use Rattle.std.specs.Prelude.{◌≡◌, ℕ};
+ghost use Rattle.std.specs.Prelude.{◌≡◌};
 ghost use Rattle.terms.specs.Refusals.{said};
 ghost use Rattle.market.specs.Bands.{Banded, band_after, band_fault, band_top, banded, lowest, too_far, width_of, width_said, would_move};
 ghost use Rattle.market.specs.Meaning.{led};

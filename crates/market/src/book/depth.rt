@@ -1,4 +1,4 @@
-ghost use Rattle.std.specs.Prelude.{◌≡◌, ℕ, ◌<◌, ◌&&◌, List, [], length, position, IfOk, ◌==◌, is_some};
+ghost use Rattle.std.specs.Prelude.{◌≡◌, ◌<◌, ◌&&◌, List, [], length, position, IfOk, ◌==◌, is_some};
 ghost use Rattle.std.specs.Result.{result_err};
 ghost use Rattle.terms.specs.Ranges.{number as number_in_range};
 ghost use Rattle.terms.specs.Tables.{entries};
