@@ -22,8 +22,8 @@ fn better(side: Side, a: &Top, b: &Top) -> bool
     ensures { result ≡ better side a.now b.now }
 {
     match side {
-        Side::Buy => a.price.cents() > b.price.cents(),
-        Side::Sell => a.price.cents() < b.price.cents(),
+        Side::Buy => a.price > b.price,
+        Side::Sell => a.price < b.price,
     }
 }
 
