@@ -1,5 +1,4 @@
 // One turn of a sitting: a statement is made a call of the session, and answered.
-ghost use Rattle.std.specs.Prelude.{◌≡◌};
 ghost use Rattle.std.specs.Option.{option_map};
 ghost use Rattle.terms.specs.Refusals.{said};
 ghost use Rattle.script.specs.Lines.{spoken};

@@ -1,6 +1,6 @@
 // The lines printed: for each call its line in the text, its first word and what it answered.
 ghost use Rattle.std.specs.Prelude.{◌≡◌, true, IfOk, Some, string_bytes};
-ghost use Rattle.script.specs.Answers.{line_of, one_line, price_text, reading_text, refusal_text, said_text, text_of};
+ghost use Rattle.script.specs.Answers.{line_of, one_line, price_text, reading_text, refusal_text, text_of};
 
 use crate::keyword::Keyword;
 use market::fault::Fault;
