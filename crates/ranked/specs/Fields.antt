@@ -8,6 +8,7 @@ use Rattle.std.specs.declared.cmp.Ordering.TheVariants.{Less, Equal, Greater}
 use Rattle.std.proofs.Common.{ap, sym, ◌∙◌, arith}
 use Rattle.std.proofs.lemmas.Cmp.{alike_right, back_total, int_cmp_total, int_ranked, nat_cmp_total, ranked}
 use Rattle.std.proofs.lemmas.Bool.Decides.{nat_tests}
+use Rattle.ranked.specs.Comparisons.{agreed, passed}
 use Rattle.ranked.specs.Ranks.{first_by}
 
 decided : (c o : Ordering) → first_by (is_lt c) (is_lt (ordering_reverse c)) (is_le o) ≡ is_le (ordering_then c o)
@@ -122,3 +123,37 @@ same_fields f g h j k l r s e =
 
 pub customers_same : (a b : Reverse Bool) → bool_cmp b.0 a.0 ≡ Equal → a ≡ b
 customers_same a b e = let h = marks_same a.0 b.0 e in λ i. record { 0 = h i }
+
+-- the laws of each kind of field, and of the last
+abbrev by_number : ℕ → ℕ → Bool → Bool
+by_number a b r = first_by (nat_lt a b) (nat_lt b a) r
+
+abbrev by_price : ℤ → ℤ → Bool → Bool
+by_price a b r = first_by (int_lt a b) (int_lt b a) r
+
+abbrev by_mark : Bool → Bool → Bool → Bool
+by_mark a b r = first_by (a && not b) (b && not a) r
+
+pub numbers_agreed : (a b : ℕ) (r s : Bool) → by_number a b r ≡ true → by_number b a s ≡ true → (a ≡ b) × (r ≡ true) × (s ≡ true)
+numbers_agreed = field_agreed nat_cmp_total nat_lt numbers_lower numbers_same
+
+pub numbers_passed : (a b c : ℕ) (r s t : Bool) → by_number a b r ≡ true → by_number b c s ≡ true → (r ≡ true → s ≡ true → t ≡ true) → by_number a c t ≡ true
+numbers_passed = field_passed nat_cmp_total nat_lt numbers_lower
+
+pub prices_agreed : (a b : ℤ) (r s : Bool) → by_price a b r ≡ true → by_price b a s ≡ true → (a ≡ b) × (r ≡ true) × (s ≡ true)
+prices_agreed = field_agreed int_cmp_total int_lt prices_lower prices_same
+
+pub prices_passed : (a b c : ℤ) (r s t : Bool) → by_price a b r ≡ true → by_price b c s ≡ true → (r ≡ true → s ≡ true → t ≡ true) → by_price a c t ≡ true
+prices_passed = field_passed int_cmp_total int_lt prices_lower
+
+pub marks_agreed : (a b : Bool) (r s : Bool) → by_mark a b r ≡ true → by_mark b a s ≡ true → (a ≡ b) × (r ≡ true) × (s ≡ true)
+marks_agreed = field_agreed (back_total bool_cmp_total) (λ a b. a && not b) marks_lower marks_same
+
+pub marks_passed : (a b c : Bool) (r s t : Bool) → by_mark a b r ≡ true → by_mark b c s ≡ true → (r ≡ true → s ≡ true → t ≡ true) → by_mark a c t ≡ true
+marks_passed = field_passed (back_total bool_cmp_total) (λ a b. a && not b) marks_lower
+
+pub last_agreed : (a b : ℕ) → nat_le a b ≡ true → nat_le b a ≡ true → a ≡ b
+last_agreed = agreed nat_cmp_total (λ n. n) nat_le numbers_upto numbers_same
+
+pub last_passed : (a b c : ℕ) → nat_le a b ≡ true → nat_le b c ≡ true → nat_le a c ≡ true
+last_passed = passed nat_cmp_total (λ n. n) nat_le numbers_upto
