@@ -10,6 +10,7 @@ use auction::record::Auction;
 use ranked::contra::ContraItem;
 use terms::order::{Order, Response};
 
+// Each kind says by a test of its own what is contra interest, and `entry_item` serves them all.
 pub trait Interest {
     ghost item: { AuctionRow → Self → Option Item };
 

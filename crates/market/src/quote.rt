@@ -5,9 +5,11 @@ ghost use Rattle.terms.specs.Strategies.{legs_of};
 ghost use Rattle.terms.specs.Synthetics.{synthetic_of};
 
 use crate::interface::Market;
+use arrayvec::ArrayVec;
 use terms::side::Side;
 use terms::strategy::Strategy;
 use terms::synthetic::Synthetic;
+use terms::top::Top;
 
 // The SBB (quote `Buy`) or the SBO (quote `Sell`) of the strategy.
 pub fn synthetic<M: Market>(market: &mut M, strategy: &Strategy, quote: Side) -> Option<Synthetic>
@@ -15,11 +17,9 @@ pub fn synthetic<M: Market>(market: &mut M, strategy: &Strategy, quote: Side) ->
     ensures range { IfSome result (λ s. complex_price s.price ≡ true) }
     ensures same { market.new ≡ market.old }
 {
-    let legs = strategy.legs();
-    let mut tops = [None; 4];
-    // By index: of an array whose `iter_mut` is zipped nothing is known after the loop.
-    for (i, leg) in legs.iter().enumerate() {
-        tops[i] = market.tell(leg.component, leg.reads(quote));
+    let mut tops: ArrayVec<Option<Top>, 4> = ArrayVec::new();
+    for leg in strategy.legs() {
+        tops.push(market.tell(leg.component, leg.reads(quote)));
     }
-    strategy.synthetic(&tops[..legs.len()])
+    strategy.synthetic(&tops)
 }

@@ -102,6 +102,7 @@ fn share_kind(words: &[Word]) -> Option<ShareKind>
     )
 }
 
+// Not one with the keyword's: a pattern names its case, and says it shorter than a parameter would.
 fn only_number(words: &[Word]) -> Option<u32>
     ensures { result ≡ only_number words.now }
 {

@@ -12,7 +12,8 @@ use terms::side::Side;
 use terms::strategy::Strategy;
 use terms::table::Table;
 
-// Which auctions to count: all that are due, or those of a strategy that are running or due.
+// Which auctions to count: all that are due, or those of a strategy that are running or due. A
+// value and no test of the caller's own, for these three are all that a session tells.
 #[derive(Clone, Copy)]
 pub enum Standing {
     Due,

@@ -12,7 +12,8 @@ use ranked::contra::ContraItem;
 // So many contra items there may be. They lie in the value itself: a settlement has no heap.
 pub(crate) type Items = ArrayVec<ContraItem, 128>;
 
-// The items that pass a test, in their order.
+// The items that pass a test, in their order. They may stand in a caller's slice, so that they are
+// few is asked.
 pub(crate) fn picked<P: Fn(&ContraItem) -> bool>(items: &[ContraItem], passes: P) -> Items
     requires few { length items.now ≤ 128 }
     requires always { P.IsAlwaysCallable passes }

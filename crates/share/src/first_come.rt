@@ -12,7 +12,8 @@ use terms::refusal::Refusal;
 pub struct FirstCome;
 
 // Gives each size the lesser of it and what is left. Here the whole award uses up what is left, and
-// pro rata only the one more, so each has a loop of its own.
+// pro rata only the one more, so each has a loop of its own. The awards are written by place, for of
+// a list whose `iter_mut` is zipped nothing is known after the loop.
 fn fill(sizes: &[u32], q: u32, given: &mut [u32])
     requires { length sizes.now ≤ length given.old }
     ensures { given.new ≡ first_come sizes.now q ++ drop (length sizes.now) given.old }

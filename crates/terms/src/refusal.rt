@@ -51,6 +51,7 @@ pub enum Refusal<F> {
 }
 
 impl<F> Refusal<F> {
+    // A match, for cases that hold values have no number of their own.
     pub fn number(&self) -> u32
         ensures { result ≡ number_of self.now }
     {

@@ -70,7 +70,7 @@ fn best_among(place: Place, best: Option<Top>, orders: &[BookOrder]) -> Option<T
         .fold(best, |best, order| order.join(place, best))
 }
 
-// The place of the order with this number.
+// The place of the order with this number, searched for: a map would want memory at each notice.
 fn place_of(number: u32, orders: &[BookOrder]) -> Option<usize>
     ensures { result ≡ position (λ o. o.number == number) orders.now }
 {

@@ -2,10 +2,10 @@ use Rattle.std.proofs.Common.{◌≡◌, ◌≤◌, length, take}
 use Rattle.terms.specs.Synthetics.{priced}
 use Rattle.market.proofs.quote.synthetic.Given as goal
 
-abbrev pub invariant-loop-i : goal.invariant-loop-i
-invariant-loop-i g l = record {
+abbrev pub invariant-loop-leg : goal.invariant-loop-leg
+invariant-loop-leg g l = record {
   same : l.market ≡ l.initial.market;
-  room : length l.tops ≡ 4;
-  few : length l.legs ≤ 4;
-  told : take l.i l.tops ≡ take l.i (priced (g.M.Market.top (g.M.Market.model l.initial.market)) l.quote l.legs);
+  few : length l.leg-items ≤ 4;
+  many : length l.tops.items ≡ l.leg-index;
+  told : l.tops.items ≡ take l.leg-index (priced (g.M.Market.top (g.M.Market.model l.initial.market)) l.quote l.leg-items);
 }

@@ -7,12 +7,12 @@ returns-then-sum-q c =
     let e : c.sum-sum.result ≡ sum c.args.sizes.now = search rules in
     all_given _ _ _ _ _ e c.if-sum-q.true c.copy_from_slice.ensures.after
 
-pub left_over-over-requires : goal.left_over-over-requires
-left_over-over-requires c =
+pub left_over-requires : goal.left_over-requires
+left_over-requires c =
     let e : c.sum-sum.result ≡ sum c.args.sizes.now = search rules in
-    record { below = c.if-sum-q.false; within = over_within c.args.sizes.now _ _ e c.if-sum-q.false }
+    over_within c.args.sizes.now _ _ e c.if-sum-q.false
 
 pub returns : goal.returns
 returns c =
     let e : c.sum-sum.result ≡ sum c.args.sizes.now = search rules in
-    rest_given _ _ _ e c.if-sum-q.false _ _ _ c.left_over-over.ensures c.deal.ensures
+    rest_given _ _ _ e c.if-sum-q.false _ _ _ c.left_over.ensures c.deal.ensures
