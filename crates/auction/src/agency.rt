@@ -16,6 +16,15 @@ pub struct Agency {
     pub stop: i32,
 }
 
+// The prices that a stop must respect, as they stand: the best bid and offer, and the best resting
+// order of the Agency Order's side.
+#[derive(Clone, Copy)]
+pub struct Quotes {
+    pub bid: Option<Synthetic>,
+    pub best: Option<Synthetic>,
+    pub offer: Option<Synthetic>,
+}
+
 // A price as a buyer sees it: negated for a seller. In 64 bits nothing is lost.
 pub fn as_buyer(side: Side, price: i32) -> i64
     ensures { result ≡ as_buyer side price }
@@ -66,19 +75,14 @@ impl Agency {
     }
 
     // The first clause that the stop fails.
-    pub fn failed(
-        self,
-        bid: Option<Synthetic>,
-        best: Option<Synthetic>,
-        offer: Option<Synthetic>,
-    ) -> Option<Clause>
-        ensures { result ≡ failed_clause (as_buyer self.side self.stop) self.customer (seen self.side bid) (seen self.side best) (seen self.side offer) }
+    pub fn failed(self, quotes: Quotes) -> Option<Clause>
+        ensures { result ≡ failed_clause (as_buyer self.side self.stop) self.customer (seen self.side quotes.bid) (seen self.side quotes.best) (seen self.side quotes.offer) }
     {
-        if !self.meets_bid(bid) {
+        if !self.meets_bid(quotes.bid) {
             Some(Clause::Bid)
-        } else if !self.meets_orders(best) {
+        } else if !self.meets_orders(quotes.best) {
             Some(Clause::Orders)
-        } else if !self.meets_offer(offer) {
+        } else if !self.meets_offer(quotes.offer) {
             Some(Clause::Offer)
         } else {
             None

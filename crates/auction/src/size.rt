@@ -38,11 +38,7 @@ fn smallest_ratio(legs: &[Leg]) -> u32
     ensures value { result ≡ smallest_ratio legs.now }
     ensures most { result ≤ 8 }
 {
-    let mut smallest = 8;
-    for leg in legs {
-        smallest = leg.ratio.min(smallest);
-    }
-    smallest
+    legs.iter().fold(8, |smallest, leg| smallest.min(leg.ratio))
 }
 
 // Whether an auction of this size is so small that no other may be in its strategy.

@@ -2,12 +2,10 @@
 // with the text on standard input.
 #![tactic(auto)]
 
-ghost use Rattle.std.specs.Prelude.{◌<◌};
-
 use anyhow::anyhow;
 use console::notices::Stated;
-use console::setup::{Heading, Setup};
-use console::text::line_len;
+use console::setup::{NotTaken, Setup};
+use console::text::{Line, Lines};
 use console::turn::respond;
 use market::band::Band;
 use market::board::Board;
@@ -15,48 +13,35 @@ use market::book::DepthBook;
 use market::fault::Fault;
 use market::interface::Market;
 use script::answer::{Answer, answer_line};
-use script::keyword::Keyword;
 use script::lex::{Unread, words};
 use script::line::{MarketKind, ShareKind, Statement, statement_of};
-use script::word::Word;
 use session::state::Session;
+use std::alloc::AllocError;
 use std::io::Read;
 use std::process::ExitCode;
 use std::{env, fs};
+use terms::refusal::Refusal;
 
-// A place in the text: the byte at which a line begins, and the line's number.
-#[derive(Clone, Copy)]
-struct Place {
-    at: usize,
-    line: usize,
+// Why a text is not read to its end.
+#[derive(Drop)]
+enum Stop {
+    // at a line that cannot be read, as was told on standard error
+    Unreadable,
+    // at a band that was refused, as was printed
+    Refused,
+    Failed(anyhow::Error),
 }
 
-impl Place {
-    // The place behind a line of so many bytes.
-    fn after(self, len: usize) -> Place
-        ensures { self.at < 18446744073709551615 → self.at < result.at }
-    {
-        Place {
-            at: self.at.saturating_add(len).saturating_add(1),
-            line: self.line.saturating_add(1),
-        }
+impl From<anyhow::Error> for Stop {
+    fn from(error: anyhow::Error) -> Stop {
+        Stop::Failed(error)
     }
 }
 
-// What a line is. One that cannot be read has been told on standard error.
-#[derive(Drop)]
-enum Line {
-    Blank,
-    Unreadable,
-    // a statement, with the word that it begins with
-    Said(Keyword, Statement),
-}
-
-// Whether a text was read to its end, or up to a line that cannot be read.
-#[derive(Clone, Copy)]
-enum Ending {
-    Read,
-    Unreadable,
+impl From<AllocError> for Stop {
+    fn from(error: AllocError) -> Stop {
+        Stop::Failed(error.into())
+    }
 }
 
 // The text: of the file that is named, or of standard input.
@@ -81,81 +66,62 @@ fn complain(rt: &HostRuntime, line: usize, bytes: &[u8]) -> anyhow::Result<()> {
     Ok(())
 }
 
-// The statement that the words of a line make.
-fn said(rt: &HostRuntime, line: usize, bytes: &[u8], words: &[Word]) -> anyhow::Result<Line> {
-    let Some(first) = words.first() else {
-        return Ok(Line::Blank);
+// Stops at what cannot be read of a line.
+fn unreadable(rt: &HostRuntime, line: usize, bytes: &[u8]) -> Stop {
+    match complain(rt, line, bytes) {
+        Ok(()) => Stop::Unreadable,
+        Err(error) => Stop::Failed(error),
+    }
+}
+
+// The statement that a line makes, unless it is blank.
+fn read_line(rt: &HostRuntime, line: Line<'_>) -> Result<Option<Statement>, Stop> {
+    let words = match words(rt.alloc(), line.bytes) {
+        Ok(words) => words,
+        Err(Unread::Memory) => return Err(Stop::Failed(anyhow!("out of memory"))),
+        Err(Unread::Unknown { spelling, .. }) => {
+            return Err(unreadable(rt, line.number, spelling));
+        }
     };
-    if let Word::Key(call) = *first {
-        if let Some(statement) = statement_of(rt.alloc(), words)? {
-            return Ok(Line::Said(call, statement));
-        }
+    if words.is_empty() {
+        return Ok(None);
     }
-    complain(rt, line, bytes)?;
-    Ok(Line::Unreadable)
-}
-
-// What a line of the text is.
-fn read_line(rt: &HostRuntime, line: usize, bytes: &[u8]) -> anyhow::Result<Line> {
-    match words(rt.alloc(), bytes) {
-        Ok(words) => said(rt, line, bytes, &words),
-        Err(Unread::Memory) => Err(anyhow!("out of memory")),
-        Err(Unread::Unknown(span)) => {
-            complain(rt, line, bytes.get(span.start..span.end).unwrap_or(bytes))?;
-            Ok(Line::Unreadable)
-        }
+    match statement_of(rt.alloc(), &words)? {
+        Some(statement) => Ok(Some(statement)),
+        None => Err(unreadable(rt, line.number, line.bytes)),
     }
-}
-
-// The bytes of the line at a place.
-fn line_at(text: &[u8], place: Place) -> &[u8] {
-    let at = place.at;
-    if at >= text.len() {
-        return &text[0..0];
-    }
-    let rest = &text[at..text.len()];
-    let len = line_len(rest);
-    &rest[0..len]
 }
 
 fn print_answer(
     rt: &HostRuntime,
-    line: usize,
-    call: Keyword,
-    answer: &Answer,
+    line: Line<'_>,
+    statement: &Statement,
+    answer: &Result<Answer, Refusal<Fault>>,
 ) -> anyhow::Result<()> {
-    let text = answer_line(rt.alloc(), line, call, answer)?;
+    let text = answer_line(rt.alloc(), line.number, statement.first_word(), answer)?;
     println!(rt; "{text}")?;
     Ok(())
 }
 
-// Makes the calls of the text from a place on, and prints their answers.
+// Makes the calls of these lines, and prints their answers.
 fn play<M: Market<Fault = Fault> + Drop, S: Drop>(
     rt: &HostRuntime,
     mut session: Session<M, S>,
-    text: &[u8],
-    from: Place,
-) -> anyhow::Result<Ending>
+    lines: Lines<'_>,
+) -> Result<(), Stop>
 where
     M::Notice: Stated + Drop,
 {
-    let mut place = from;
-    while place.at < text.len() {
-        let bytes = line_at(text, place);
-        match read_line(rt, place.line, bytes)? {
-            Line::Blank => {}
-            Line::Unreadable => return Ok(Ending::Unreadable),
-            Line::Said(call, statement) => {
-                let Some(answer) = respond(&mut session, &statement) else {
-                    complain(rt, place.line, bytes)?;
-                    return Ok(Ending::Unreadable);
-                };
-                print_answer(rt, place.line, call, &answer)?;
-            }
-        }
-        place = place.after(bytes.len());
+    for line in lines {
+        let Some(statement) = read_line(rt, line)? else {
+            continue;
+        };
+        let Some(answer) = respond(&mut session, &statement) else {
+            return Err(unreadable(rt, line.number, line.bytes));
+        };
+        print_answer(rt, line, &statement, &answer)?;
     }
-    Ok(Ending::Read)
+    Ok(())
 }
 
 // A sitting over this market, under the band if there is one.
@@ -163,75 +129,61 @@ fn sit<M: Market<Fault = Fault> + Drop>(
     rt: &HostRuntime,
     market: M,
     setup: Setup,
-    text: &[u8],
-    from: Place,
-) -> anyhow::Result<Ending>
+    lines: Lines<'_>,
+) -> Result<(), Stop>
 where
     M::Notice: Stated + Drop,
 {
     let rule = setup.share.unwrap_or(ShareKind::ProRata);
     match setup.band {
-        Some(width) => play(
-            rt,
-            Session::new(rt.alloc(), Band::new(market, width), rule)?,
-            text,
-            from,
-        ),
-        None => play(rt, Session::new(rt.alloc(), market, rule)?, text, from),
-    }
-}
-
-// How far the headings went.
-#[derive(Clone, Copy)]
-enum Headed {
-    // the calls begin here
-    Calls(Place),
-    // nothing is to be read behind them
-    Ended(Ending),
-}
-
-// Takes the headings of the text.
-fn headings(rt: &HostRuntime, setup: &mut Setup, text: &[u8]) -> anyhow::Result<Headed> {
-    let mut place = Place { at: 0, line: 1 };
-    while place.at < text.len() {
-        let bytes = line_at(text, place);
-        match read_line(rt, place.line, bytes)? {
-            Line::Blank => {}
-            Line::Unreadable => return Ok(Headed::Ended(Ending::Unreadable)),
-            Line::Said(call, statement) => match setup.heading(&statement) {
-                Heading::Taken => {}
-                Heading::Again => {
-                    complain(rt, place.line, bytes)?;
-                    return Ok(Headed::Ended(Ending::Unreadable));
-                }
-                Heading::Refused(refusal) => {
-                    print_answer(rt, place.line, call, &Answer::Refused(refusal))?;
-                    return Ok(Headed::Ended(Ending::Read));
-                }
-                Heading::Call => return Ok(Headed::Calls(place)),
-            },
+        Some(width) => {
+            let market = Band::new(market, width);
+            play(rt, Session::new(rt.alloc(), market, rule)?, lines)
         }
-        place = place.after(bytes.len());
+        None => play(rt, Session::new(rt.alloc(), market, rule)?, lines),
     }
-    Ok(Headed::Calls(place))
 }
 
-fn run(rt: &HostRuntime) -> anyhow::Result<Ending> {
+// Takes the headings of a text, and gives the lines from the first call on.
+fn headings<'a>(
+    rt: &HostRuntime,
+    setup: &mut Setup,
+    mut lines: Lines<'a>,
+) -> Result<Lines<'a>, Stop> {
+    let mut calls = lines;
+    // No `for`: the lines from a call on are handed on.
+    while let Some(line) = lines.next() {
+        if let Some(statement) = read_line(rt, line)? {
+            match setup.heading(&statement) {
+                Ok(()) => {}
+                Err(NotTaken::Call) => return Ok(calls),
+                Err(NotTaken::Again) => return Err(unreadable(rt, line.number, line.bytes)),
+                Err(NotTaken::Refused(refusal)) => {
+                    print_answer(rt, line, &statement, &Err(refusal))?;
+                    return Err(Stop::Refused);
+                }
+            }
+        }
+        calls = lines;
+    }
+    Ok(lines)
+}
+
+fn run(rt: &HostRuntime) -> Result<(), Stop> {
     let text = source(rt)?;
     let mut setup = Setup::new();
-    match headings(rt, &mut setup, &text)? {
-        Headed::Ended(ending) => Ok(ending),
-        Headed::Calls(from) => match setup.market.unwrap_or(MarketKind::Board) {
-            MarketKind::Board => sit(rt, Board::new(), setup, &text, from),
-            MarketKind::Book => sit(rt, DepthBook::new(rt.alloc())?, setup, &text, from),
-        },
+    let calls = headings(rt, &mut setup, Lines::of(&text))?;
+    match setup.market.unwrap_or(MarketKind::Board) {
+        MarketKind::Board => sit(rt, Board::new(), setup, calls),
+        MarketKind::Book => sit(rt, DepthBook::new(rt.alloc())?, setup, calls),
     }
 }
 
 // A line that cannot be read has been told on standard error: the status says that it was there.
 fn main(rt: HostRuntime) -> anyhow::Result<ExitCode> {
-    match run(&rt)? {
-        Ending::Read => Ok(ExitCode::SUCCESS),
-        Ending::Unreadable => Ok(ExitCode::FAILURE),
+    match run(&rt) {
+        Ok(()) | Err(Stop::Refused) => Ok(ExitCode::SUCCESS),
+        Err(Stop::Unreadable) => Ok(ExitCode::FAILURE),
+        Err(Stop::Failed(error)) => Err(error),
     }
 }

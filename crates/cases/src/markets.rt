@@ -3,42 +3,40 @@ use market::board::{Board, BoardNotice};
 use market::book::{BookNotice, DepthBook};
 use market::fault::Fault;
 use market::interface::Market;
+use market::quoted::Quoted;
 use std::test::Fail;
 use terms::side::Side;
 use terms::top::Top;
 
 // A top as its cents and its mark; 0 cents for none.
 fn shown(top: Option<Top>) -> (u32, bool) {
-    match top {
-        Some(top) => (top.price.cents(), top.customer),
-        None => (0, false),
-    }
+    top.map_or((0, false), |top| (top.price.cents(), top.customer))
 }
 
 // The component and the cause of a refusal, none where a notice was taken.
 fn refused(r: Result<(), Fault>) -> Option<(u32, u32)> {
-    match r {
-        Ok(()) => None,
-        Err(fault) => Some((fault.component, fault.cause.number())),
-    }
+    let fault = r.err()?;
+    Some((fault.component, fault.cause.number()))
 }
 
 fn bid(component: u32, price: u32) -> BoardNotice {
-    BoardNotice::Set {
+    BoardNotice::Set(Quoted {
         component,
         side: Side::Buy,
         price,
         customer: false,
-    }
+    })
 }
 
 fn add(number: u32, side: Side, price: u32, customer: bool) -> BookNotice {
     BookNotice::Add {
         number,
-        component: 1,
-        side,
-        price,
-        customer,
+        quoted: Quoted {
+            component: 1,
+            side,
+            price,
+            customer,
+        },
     }
 }
 
@@ -123,15 +121,13 @@ fn a_width_is_1_to_999999(rt: HostRuntime) {
     assert!(rt; Width::new(1000000).is_err());
 }
 
+fn width(cents: u32) -> Result<Width, Fail> {
+    Width::new(cents).map_err(|_| Fail::new("a width in range is refused"))
+}
+
 #[test]
 fn a_band_over_a_band(rt: HostRuntime) -> Result<(), Fail> {
-    let Ok(wide) = Width::new(50) else {
-        return Err(Fail::new("a width of 50 is refused"));
-    };
-    let Ok(narrow) = Width::new(20) else {
-        return Err(Fail::new("a width of 20 is refused"));
-    };
-    let mut market = Band::new(Band::new(Board::new(), wide), narrow);
+    let mut market = Band::new(Band::new(Board::new(), width(50)?), width(20)?);
     assert_eq!(rt; refused(market.take(&bid(1, 300))), None);
     assert_eq!(rt; refused(market.take(&bid(1, 321))), Some((1, 4)));
     assert_eq!(rt;

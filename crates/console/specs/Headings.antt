@@ -1,5 +1,5 @@
 -- What a heading of a text sets, and when it is refused.
-use Rattle.std.specs.Prelude.{◌≡◌, ℕ, cond, is_some, Some, None}
+use Rattle.std.specs.Prelude.{◌≡◌, ℕ, cond, is_some, Some, None, Ok, Err, Result}
 use Rattle.terms.specs.Refusals.{Said, Told, answered, refused, told}
 use Rattle.market.specs.declared.band.Width.{Width}
 use Rattle.market.specs.declared.fault.Fault.{Fault}
@@ -7,8 +7,8 @@ use Rattle.market.specs.Bands.{width_said}
 use Rattle.script.specs.declared.line.MarketKind.{MarketKind}
 use Rattle.script.specs.declared.line.ShareKind.{ShareKind}
 use Rattle.script.specs.Lines.{Spoken, market, band, share, listing, opening, board, book, reading}
-use Rattle.console.specs.declared.setup.Heading.{Heading}
-use Rattle.console.specs.declared.setup.Heading.TheVariants.{Taken, Again, Refused, Call}
+use Rattle.console.specs.declared.setup.NotTaken.{NotTaken}
+use Rattle.console.specs.declared.setup.NotTaken.TheVariants.{Again, Refused, Call}
 use Rattle.console.specs.declared.setup.Setup.{Setup}
 
 abbrev pub unstated : Setup
@@ -21,11 +21,11 @@ pub data Headed : Type 0 where
   refused_by : Told Fault → Headed
   call : Headed
 
-abbrev pub heading_said : Heading → Headed
-heading_said Taken = taken
-heading_said Again = again
-heading_said (Refused e) = refused_by (told e)
-heading_said Call = call
+abbrev pub heading_said : Result (Unit {0}) NotTaken → Headed
+heading_said (Ok u) = taken
+heading_said (Err Again) = again
+heading_said (Err (Refused e)) = refused_by (told e)
+heading_said (Err Call) = call
 
 pub record Head : Type 0 where
   pub says : Headed

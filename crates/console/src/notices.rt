@@ -7,7 +7,7 @@ use market::board::BoardNotice;
 use market::book::BookNotice;
 use script::line::Statement;
 
-// A kind of notice that a text can state.
+// A kind of notice that a text can state. Each kind is a case of its own of the statement.
 pub trait Stated: Sized {
     ghost stated_by: { Spoken → Option Self };
 

@@ -1,7 +1,8 @@
 // The headings of a text: the market, its band and the share rule, each stated at most once.
-ghost use Rattle.std.specs.Prelude.{◌≡◌};
+ghost use Rattle.std.specs.Prelude.{◌≡◌, cond, is_some, Ok, Err};
 ghost use Rattle.script.specs.Lines.{spoken};
-ghost use Rattle.console.specs.Headings.{Heads, heading_of, heading_said, takes_band, takes_market, takes_share, unstated};
+ghost use Rattle.console.specs.declared.setup.NotTaken.TheVariants.{Again, Refused};
+ghost use Rattle.console.specs.Headings.{Heads, heading_of, heading_said, unstated};
 
 use market::band::Width;
 use market::fault::Fault;
@@ -16,16 +17,33 @@ pub struct Setup {
     pub share: Option<ShareKind>,
 }
 
-// What a statement is among the headings.
+// Why a statement is not taken as a heading.
 #[derive(Clone, Copy)]
-pub enum Heading {
-    Taken,
+pub enum NotTaken {
     // stated before
     Again,
     // a band of a width out of range
     Refused(Refusal<Fault>),
     // no heading, but a call
     Call,
+}
+
+impl From<Refusal<Fault>> for NotTaken {
+    ghost from_gives = { λ refusal r. r ≡ Refused refusal };
+
+    fn from(refusal: Refusal<Fault>) -> NotTaken {
+        NotTaken::Refused(refusal)
+    }
+}
+
+// Whether nothing is stated yet.
+fn unstated<T>(stated: &Option<T>) -> Result<(), NotTaken>
+    ensures { result ≡ cond (is_some stated.now) (Err Again) (Ok tt) }
+{
+    match stated {
+        Some(_) => Err(NotTaken::Again),
+        None => Ok(()),
+    }
 }
 
 impl Setup {
@@ -40,49 +58,26 @@ impl Setup {
     }
 
     // Takes a heading. Nothing changes unless it is taken.
-    pub fn heading(&mut self, statement: &Statement) -> Heading
+    pub fn heading(&mut self, statement: &Statement) -> Result<(), NotTaken>
         ensures { Heads (heading_of self.old (spoken statement.now)) (heading_said result) self.new }
     {
         match statement {
-            Statement::Market(kind) => self.take_market(*kind),
-            Statement::Share(kind) => self.take_share(*kind),
-            Statement::Band(width) => self.take_band(*width),
-            _ => Heading::Call,
-        }
-    }
-
-    fn take_market(&mut self, kind: MarketKind) -> Heading
-        ensures { Heads (takes_market self.old kind) (heading_said result) self.new }
-    {
-        if self.market.is_some() {
-            return Heading::Again;
-        }
-        self.market = Some(kind);
-        Heading::Taken
-    }
-
-    fn take_share(&mut self, kind: ShareKind) -> Heading
-        ensures { Heads (takes_share self.old kind) (heading_said result) self.new }
-    {
-        if self.share.is_some() {
-            return Heading::Again;
-        }
-        self.share = Some(kind);
-        Heading::Taken
-    }
-
-    fn take_band(&mut self, cents: u32) -> Heading
-        ensures { Heads (takes_band self.old cents) (heading_said result) self.new }
-    {
-        if self.band.is_some() {
-            return Heading::Again;
-        }
-        match Width::new(cents) {
-            Ok(width) => {
-                self.band = Some(width);
-                Heading::Taken
+            Statement::Market(kind) => {
+                unstated(&self.market)?;
+                self.market = Some(*kind);
+                Ok(())
             }
-            Err(refusal) => Heading::Refused(refusal),
+            Statement::Share(kind) => {
+                unstated(&self.share)?;
+                self.share = Some(*kind);
+                Ok(())
+            }
+            Statement::Band(cents) => {
+                unstated(&self.band)?;
+                self.band = Some(Width::new(*cents)?);
+                Ok(())
+            }
+            _ => Err(NotTaken::Call),
         }
     }
 }

@@ -1,21 +1,18 @@
 -- Counted items: a group counts up to the size, and nothing else of an item changes.
-use Rattle.std.proofs.Common.{◌≡◌, ℕ, ◌+◌, ◌-◌, ◌≤◌, Bool, true, false, cond, not, ◌&&◌, ◌||◌, leb, List, [], ◌∷◌, ◌++◌, length, take, drop, ℤ, sum_by, sym, refl, ap, ◌∙◌, subst, inl, inr, arith}
+use Rattle.std.proofs.Common.{◌≡◌, ℕ, ◌+◌, ◌-◌, ◌≤◌, true, false, cond, not, ◌&&◌, List, [], ◌∷◌, ◌++◌, length, take, drop, sum_by, sym, refl, ap, ◌∙◌, subst, inl, inr, arith}
 use Rattle.std.proofs.lemmas.List.{take_at}
-use lib.Signed.{lt_z}
-use Rattle.std.proofs.lemmas.Int.{ints}
 use Rattle.std.proofs.lemmas.List.Sorted.{length_permutation}
 use Rattle.std.proofs.ByRecursion.{all_shuffled}
 use Rattle.std.proofs.lemmas.List.Sums.{sum_by-cons, sum_by_push}
 use Rattle.std.proofs.lemmas.Bool.{cases_Bool}
-use Rattle.std.proofs.lemmas.Bool.Decides.{nat_tests}
 use Rattle.std.specs.List.{AllZip, AllByRecursion}
 use Rattle.terms.specs.declared.auction.AuctionRow.{AuctionRow}
 use Rattle.terms.specs.declared.order.Order.{Order}
 use Rattle.terms.specs.declared.order.Response.{Response}
-use Rattle.ranked.specs.Fields.{last_passed, marks_passed, prices_passed}
+use Rattle.ranked.specs.ContraLaws.{contra_compared, contra_passed}
 use Rattle.ranked.proofs.Placement.{folded_order, folded_ranking, folded_whole}
 use Rattle.ranked.specs.Contras.{contra_before}
-use Rattle.ranked.specs.Ranks.{InOrder, first_by}
+use Rattle.ranked.specs.Ranks.{InOrder}
 use Rattle.ranked.specs.declared.contra.ContraItem.{ContraItem}
 use Rattle.contra.proofs.Alike.{level_passed, level_turned, user_passed, user_turned, same_like}
 use Rattle.contra.proofs.Counting.{counted_length}
@@ -82,15 +79,6 @@ module _ (size : ℕ) where
       (counted_all (λ y. contra_before x y ≡ true) (λ y n h. h) xs (earlier ++ x ∷ []) o.0, counted_order xs (earlier ++ x ∷ []) o.1)
 
 -- the items of an auction: what holds of each as it was named, their order and their number
-before_compared : (a b : ℤ) (c e : Bool) (m n : ℕ) → (first_by (lt_z a b) (lt_z b a) (first_by (c && not e) (e && not c) (leb m n)) || first_by (lt_z b a) (lt_z a b) (first_by (e && not c) (c && not e) (leb n m))) ≡ true
-before_compared a b c e m n = grind (arith, ints, nat_tests)
-
-before_passed : (x y z : ContraItem) → contra_before x y ≡ true → contra_before y z ≡ true → contra_before x z ≡ true
-before_passed x y z e f =
-    prices_passed x.level y.level z.level _ _ _ e f
-    (λ e f. marks_passed x.customer y.customer z.customer _ _ _ e f
-    (λ e f. last_passed x.number y.number z.number e f))
-
 module _ (a : AuctionRow) (orders : List Order) (responses : List Response) where
   pub contra_all : (P : ContraItem → Type 0) → ((x : ContraItem) (n : ℕ) → P x → P (with_counted x n)) → AllByRecursion P (named a orders responses) → AllByRecursion P (contra_of a orders responses)
   contra_all P h all =
@@ -99,7 +87,7 @@ module _ (a : AuctionRow) (orders : List Order) (responses : List Response) wher
   pub contra_order : InOrder contra_before (contra_of a orders responses)
   contra_order =
       counted_order a.size (ranked_of a orders responses) []
-      (folded_order contra_before (λ x y. before_compared x.level y.level x.customer y.customer x.number y.number) before_passed (named a orders responses) [] tt)
+      (folded_order contra_before contra_compared contra_passed (named a orders responses) [] tt)
 
   pub contra_few : length (contra_of a orders responses) ≤ length orders + length responses
   contra_few =
@@ -110,7 +98,7 @@ module _ (a : AuctionRow) (orders : List Order) (responses : List Response) wher
 pub contra_law : (a : AuctionRow) (orders : List Order) (responses : List Response) → length orders ≤ 64 → length responses ≤ 64 → Contra a orders responses (contra_of a orders responses)
 contra_law a orders responses h k = record {
   ranks = ranked_of a orders responses;
-  ranking = folded_ranking contra_before (λ x y. before_compared x.level y.level x.customer y.customer x.number y.number) before_passed (named a orders responses);
+  ranking = folded_ranking contra_before contra_compared contra_passed (named a orders responses);
   counted = refl;
   order = contra_order a orders responses;
   grouped = λ x. grouped a.size x (ranked_of a orders responses);

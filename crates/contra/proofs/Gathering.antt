@@ -54,9 +54,6 @@ module _ {X : Type 0} (before : X → X → Bool) where
       ∙ ap (λ l. fold (placed before) (take len places) (xs ++ ys) ++ l) d)
 
 -- one record or none is put where there is room for it
-pub put_none_len : {X : Type 0} (len : ℕ) (item : Option X) → item ≡ None → len ≡ len + length (option_to_list item)
-put_none_len len item e = rw e (omega arith)
-
 module _ {X : Type 0} (before : X → X → Bool) where
   pub put_none : (places : List X) (len : ℕ) (item : Option X) → item ≡ None → places ≡ gathered before places len (option_to_list item)
   put_none places len item e = rw e (gathered_none before places len)

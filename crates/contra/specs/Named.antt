@@ -32,18 +32,20 @@ entry_item a e =
       counted = e.size;
     }) (within_stop a e.price)
 
-abbrev pub order_item : AuctionRow → Order → Option ContraItem
-order_item a o =
-    cond (against a o)
-    (entry_item a (record { user = o.user; number = o.number; customer = o.customer; size = o.size; price = o.price }))
-    None
+abbrev pub order_entry : Order → Entry
+order_entry o =
+    record { user = o.user; number = o.number; customer = o.customer; size = o.size; price = o.price }
 
 -- a response is never a customer's
+abbrev pub response_entry : Response → Entry
+response_entry r =
+    record { user = r.user; number = r.number; customer = false; size = r.size; price = r.price }
+
+abbrev pub order_item : AuctionRow → Order → Option ContraItem
+order_item a o = cond (against a o) (entry_item a (order_entry o)) None
+
 abbrev pub response_item : AuctionRow → Response → Option ContraItem
-response_item a r =
-    cond (answering a r)
-    (entry_item a (record { user = r.user; number = r.number; customer = false; size = r.size; price = r.price }))
-    None
+response_item a r = cond (answering a r) (entry_item a (response_entry r)) None
 
 -- the items that these make
 abbrev pub items_of : {X : Type 0} → (X → Option ContraItem) → List X → List ContraItem

@@ -1,6 +1,6 @@
 // How many contracts of each ranked item count.
 ghost use Rattle.std.specs.Prelude.{◌≡◌, ◌-◌, [], sum_by};
-ghost use Rattle.contra.specs.Counting.{brings, count_of, counted_from, in_group, with_counted};
+ghost use Rattle.contra.specs.Counting.{brings, count_of, counted_from, in_group};
 
 use ranked::contra::ContraItem;
 
@@ -26,11 +26,9 @@ fn brought(item: &ContraItem, other: &ContraItem) -> u32
 fn room_behind(earlier: &[ContraItem], item: &ContraItem, size: u32) -> u32
     ensures { result ≡ size - sum_by (brings item.now) earlier.now }
 {
-    let mut room = size;
-    for other in earlier {
-        room = room.saturating_sub(brought(item, other));
-    }
-    room
+    earlier.iter().fold(size, |room, other| {
+        room.saturating_sub(brought(item, other))
+    })
 }
 
 // How many contracts of an item count behind the earlier ones. A customer's count whole.
@@ -44,19 +42,12 @@ fn contracts_of(earlier: &[ContraItem], item: &ContraItem, size: u32) -> u32
     }
 }
 
-// The item with so many contracts counted.
-fn with_counted(item: &ContraItem, counted: u32) -> ContraItem
-    ensures { result ≡ with_counted item.now counted }
-{
-    ContraItem { counted, ..*item }
-}
-
 // Counts the items, from the last to the first, so that those in front still have their sizes.
 pub(crate) fn count_all(items: &mut [ContraItem], size: u32)
     ensures { items.new ≡ counted_from size [] items.old }
 {
-    for i in (0..items.len()).rev() {
-        let counted = contracts_of(&items[0..i], &items[i], size);
-        items[i] = with_counted(&items[i], counted);
+    if let Some((item, earlier)) = items.split_last_mut() {
+        item.counted = contracts_of(earlier, item, size);
+        count_all(earlier, size);
     }
 }

@@ -23,11 +23,8 @@ fn put(list: &mut Ordered<'_, ContraItem>, item: Option<ContraItem>)
     ensures size { length (places list.new) ≡ length (places list.old) }
     ensures owner { list.new.items.ghost_name ≡ list.old.items.ghost_name }
 {
-    match item {
-        Some(item) => {
-            let _put = list.insert(item);
-        }
-        None => {}
+    if let Some(item) = item {
+        let _put = list.insert(item);
     }
 }
 
@@ -40,8 +37,8 @@ fn gather<T: Interest>(list: &mut Ordered<'_, ContraItem>, auction: &Auction, en
     ensures owner { list.new.items.ghost_name ≡ list.old.items.ghost_name }
     ensures turns { AllByRecursion (ItemTurns auction.now.row.side) (items_of (T.Interest.item auction.now.row) entries.now) }
 {
-    for i in 0..entries.len() {
-        put(list, entries[i].item(auction));
+    for entry in entries {
+        put(list, entry.item(auction));
     }
 }
 

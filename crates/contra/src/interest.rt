@@ -3,13 +3,14 @@ ghost use Rattle.std.specs.Prelude.{◌≡◌, IfSome, Option};
 ghost use Rattle.terms.specs.declared.auction.AuctionRow.{AuctionRow};
 ghost use Rattle.ranked.specs.declared.contra.ContraItem.{ContraItem as Item};
 ghost use Rattle.contra.specs.Turns.{ItemTurns};
-ghost use Rattle.contra.specs.Named.{against, answering, entry_item, order_item, response_item};
+ghost use Rattle.contra.specs.Named.{against, answering, entry_item, order_entry, order_item, response_entry, response_item};
 
 use crate::entry::Entry;
 use auction::record::Auction;
 use ranked::contra::ContraItem;
 use terms::order::{Order, Response};
 
+// Each kind says by a test of its own what is contra interest, and `entry_item` serves them all.
 pub trait Interest {
     ghost item: { AuctionRow → Self → Option Item };
 
@@ -52,6 +53,35 @@ fn is_answering(response: &Response, auction: &Auction) -> bool
     response.auction == auction.id() && response.user != auction.user()
 }
 
+impl From<&Order> for Entry {
+    ghost from_gives = { λ order entry. entry ≡ order_entry order.now };
+
+    fn from(order: &Order) -> Entry {
+        Entry {
+            user: order.user,
+            number: order.number,
+            customer: order.customer,
+            size: order.size,
+            price: order.price,
+        }
+    }
+}
+
+// A response is never a customer's.
+impl From<&Response> for Entry {
+    ghost from_gives = { λ response entry. entry ≡ response_entry response.now };
+
+    fn from(response: &Response) -> Entry {
+        Entry {
+            user: response.user,
+            number: response.number,
+            customer: false,
+            size: response.size,
+            price: response.price,
+        }
+    }
+}
+
 impl Interest for Order {
     ghost item = { order_item };
 
@@ -59,16 +89,7 @@ impl Interest for Order {
         if !is_against(self, auction) {
             return None;
         }
-        entry_item(
-            auction,
-            &Entry {
-                user: self.user,
-                number: self.number,
-                customer: self.customer,
-                size: self.size,
-                price: self.price,
-            },
-        )
+        entry_item(auction, &self.into())
     }
 }
 
@@ -79,15 +100,6 @@ impl Interest for Response {
         if !is_answering(self, auction) {
             return None;
         }
-        entry_item(
-            auction,
-            &Entry {
-                user: self.user,
-                number: self.number,
-                customer: false,
-                size: self.size,
-                price: self.price,
-            },
-        )
+        entry_item(auction, &self.into())
     }
 }

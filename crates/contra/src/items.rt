@@ -35,6 +35,6 @@ pub fn contra_items(
         return Err(Refusal::Full);
     }
     let count = rank(auction, orders.entries(), responses.entries(), list);
-    count_all(&mut list[0..count], auction.size());
+    count_all(&mut list[..count], auction.size());
     Ok(count)
 }

@@ -5,8 +5,8 @@ use Rattle.terms.specs.declared.side.Side.{Side}
 use Rattle.terms.specs.declared.side.Side.TheVariants.{Buy, Sell}
 use Rattle.terms.specs.declared.top.Top.{Top}
 use Rattle.std.specs.Option.{option_map}
-use Rattle.market.specs.Bands.{Banded, band_after, band_fault, fault_or, lowest, moves_far, too_far, would_move}
-use Rattle.market.specs.Meaning.{led, led_by}
+use Rattle.market.specs.Bands.{Banded, band_fault, fault_or, lowest, moves_far, too_far, would_move}
+use Rattle.market.specs.Meaning.{led_by}
 
 module _ (p : ℕ → Bool) (c : ℕ) where
   pub lowest_here : c < 17 → p c ≡ true → Some c ≡ lowest p c (17 - c)
@@ -42,6 +42,3 @@ module _ {Mo N F : Type 0} (top : Mo → ℕ → Side → Option Top) (fault : M
   -- a component that moves too far is the band's own fault, for nothing moves that is not admitted below
   pub band_outside : lowest (would_move top fault after m.width m.below n) 1 16 ≡ Some c → band_fault top fault after outside m n ≡ Some (outside c)
   band_outside e = outside_by (fault m.below n) e
-
-  pub band_keeps : lowest (would_move top fault after m.width m.below n) 1 16 ≡ Some c → m ≡ led (band_fault top fault after outside) (band_after after) m n
-  band_keeps e = sym (ap (λ o. led_by o m (band_after after m n)) (band_outside e))

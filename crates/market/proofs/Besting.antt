@@ -1,33 +1,27 @@
 -- What a depth book shows is the best of its orders.
 use Rattle.std.proofs.Common.{◌≡◌, ℕ, Bool, true, false, ◌&&◌, ◌||◌, eqb, List, [], ◌∷◌, ◌++◌, Some, None, Option, sym, refl, ap, ◌∙◌, subst, ⊎_elim, arith}
+use Rattle.std.specs.List.{list_any}
 use Rattle.std.proofs.lemmas.List.{append_assoc, append-nil}
+use Rattle.std.proofs.lemmas.List.Folds.{list_any-append}
 use Rattle.std.proofs.lemmas.Bool.{and_from, and_left, and_parts, cases_Bool, cond-false, cond-true, both_ways, or_from, or_left, or_parts, or_right}
 use Rattle.std.proofs.lemmas.Bool.Decides.{nat_tests}
+use Rattle.std.proofs.Math.Bool.{or-false}
 use Rattle.terms.specs.Ranges.{component}
 use Rattle.terms.specs.declared.side.Side.{Side}
 use Rattle.terms.specs.declared.side.Side.TheVariants.{Buy, Sell}
 use Rattle.terms.specs.declared.top.Top.{Top}
 use Rattle.market.specs.declared.book.BookOrder.{BookOrder}
-use Rattle.market.specs.Books.{Best, IsBest, ShowsBest, at_price, beats, best_among, better, book_top, customer_at, is_at, joined, joined_to, some_by, with_order}
+use Rattle.market.specs.Books.{Best, IsBest, ShowsBest, at_price, beats, best_among, better, book_top, customer_at, is_at, joined, joined_to, with_order}
 
-or_nil : (a : Bool) → (a || false) ≡ (false || a)
-or_nil true = refl
-or_nil false = refl
-
-or_assoc : (a b c : Bool) → (a || (b || c)) ≡ ((a || b) || c)
-or_assoc true b c = refl
-or_assoc false b c = refl
-
-some_push : (p : BookOrder → Bool) (xs : List BookOrder) (o : BookOrder) → some_by p (xs ++ (o ∷ [])) ≡ (some_by p xs || p o)
-some_push p [] o = or_nil (p o)
-some_push p (x ∷ xs) o = ap (λ b. p x || b) (some_push p xs o) ∙ or_assoc (p x) (some_by p xs) (p o)
+some_push : (p : BookOrder → Bool) (xs : List BookOrder) (o : BookOrder) → list_any p (xs ++ (o ∷ [])) ≡ (list_any p xs || p o)
+some_push p xs o = list_any-append p xs (o ∷ []) ∙ ap (λ b. list_any p xs || b) (or-false (p o))
 
 -- a test that passes only where another does fails where that fails throughout
-none_by : (p q : BookOrder → Bool) → ((o : BookOrder) → p o ≡ true → q o ≡ true) → (xs : List BookOrder) → some_by q xs ≡ false → some_by p xs ≡ false
+none_by : (p q : BookOrder → Bool) → ((o : BookOrder) → p o ≡ true → q o ≡ true) → (xs : List BookOrder) → list_any q xs ≡ false → list_any p xs ≡ false
 none_by p q h [] e = refl
 none_by p q h (x ∷ xs) e =
-    let w = or_parts (q x) (some_by q xs) e in
-    or_from (p x) (some_by p xs)
+    let w = or_parts (q x) (list_any q xs) e in
+    or_from (p x) (list_any p xs)
     (⊎_elim (λ t. absurd (both_ways (q x) w.0 (h x t))) (λ f. f) (cases_Bool (p x)))
     (none_by p q h xs w.1)
 
@@ -62,8 +56,8 @@ same_price Sell x b m = refl
 
 module _ (c : ℕ) (s : Side) (xs : List BookOrder) (o : BookOrder) where
   -- an order elsewhere changes nothing
-  pass : (p : BookOrder → Bool) → p o ≡ false → some_by p (xs ++ (o ∷ [])) ≡ some_by p xs
-  pass p e = some_push p xs o ∙ (ap (λ b. some_by p xs || b) e ∙ (or_nil (some_by p xs)))
+  pass : (p : BookOrder → Bool) → p o ≡ false → list_any p (xs ++ (o ∷ [])) ≡ list_any p xs
+  pass p e = some_push p xs o ∙ (ap (λ b. list_any p xs || b) e ∙ (or-false (list_any p xs)))
 
   elsewhere : (best : Option Top) → is_at c s o ≡ false → IsBest c s xs best → IsBest c s (xs ++ (o ∷ [])) best
   elsewhere None e w = pass (is_at c s) e ∙ w
@@ -80,9 +74,9 @@ module _ (c : ℕ) (s : Side) (xs : List BookOrder) (o : BookOrder) where
   first : is_at c s o ≡ true → IsBest c s xs None → Best c s (xs ++ (o ∷ [])) o.top
   first e w =
       let t : Top = o.top in
-      let n : some_by (at_price c s t.price.cents) xs ≡ false = none_by (at_price c s t.price.cents) (is_at c s) (λ x h. (and_parts (is_at c s x) _ h).0) xs w in
-      let m : some_by (beats c s t) xs ≡ false = none_by (beats c s t) (is_at c s) (λ x h. (and_parts (is_at c s x) _ h).0) xs w in
-      let k : some_by (customer_at c s t.price.cents) xs ≡ false = none_by (customer_at c s t.price.cents) (at_price c s t.price.cents) (λ x h. (and_parts (at_price c s t.price.cents x) _ h).0) xs n in
+      let n : list_any (at_price c s t.price.cents) xs ≡ false = none_by (at_price c s t.price.cents) (is_at c s) (λ x h. (and_parts (is_at c s x) _ h).0) xs w in
+      let m : list_any (beats c s t) xs ≡ false = none_by (beats c s t) (is_at c s) (λ x h. (and_parts (is_at c s x) _ h).0) xs w in
+      let k : list_any (customer_at c s t.price.cents) xs ≡ false = none_by (customer_at c s t.price.cents) (at_price c s t.price.cents) (λ x h. (and_parts (at_price c s t.price.cents x) _ h).0) xs n in
       let a : at_price c s t.price.cents o ≡ true = grind (arith, nat_tests) in
       let b : beats c s t o ≡ false = ap (λ x. x && better s t t) e ∙ irreflexive s t in
       record {
@@ -110,9 +104,9 @@ module _ (c : ℕ) (s : Side) (xs : List BookOrder) (o : BookOrder) where
     beaten h =
         let t : Top = o.top in
         let a : at_price c s t.price.cents o ≡ true = price_test t.price.cents true (grind (arith, nat_tests)) in
-        let m : some_by (beats c s t) xs ≡ false = none_by (beats c s t) (beats c s b)
+        let m : list_any (beats c s t) xs ≡ false = none_by (beats c s t) (beats c s b)
         (λ x k. let v = and_parts (is_at c s x) _ k in and_from _ _ v.0 (transitive s x.top t b v.1 h)) xs w.unbeaten in
-        let k : some_by (customer_at c s t.price.cents) xs ≡ false = none_by (customer_at c s t.price.cents) (beats c s b)
+        let k : list_any (customer_at c s t.price.cents) xs ≡ false = none_by (customer_at c s t.price.cents) (beats c s b)
         (λ x k. let v = and_parts (is_at c s x) _ (and_parts (at_price c s t.price.cents x) _ k).0 in and_from _ _ v.0 (like_better s x.top t b h v.1)) xs w.unbeaten in
         record {
           there = some_push _ xs o ∙ or_right _ _ a;

@@ -1,6 +1,6 @@
 -- What a depth book means: the orders it holds, and of each component and side the best of them.
-use Rattle.std.specs.Prelude.{◌≡◌, ℕ, Bool, true, false, cond, not, ◌&&◌, ◌||◌, List, [], ◌∷◌, ◌++◌, length, is_some, Some, None, Option, ◌==◌, nat_lt}
-use Rattle.std.specs.List.{remove, prefix_len}
+use Rattle.std.specs.Prelude.{◌≡◌, ℕ, ◌<◌, Bool, true, false, cond, not, ◌&&◌, ◌||◌, List, [], ◌∷◌, ◌++◌, fold, length, is_some, Some, None, Option, ◌==◌, nat_lt}
+use Rattle.std.specs.List.{list_any, remove, prefix_len}
 use Rattle.std.specs.Option.{option_map, option_to_list}
 use Rattle.terms.specs.declared.side.Side.{Side}
 use Rattle.terms.specs.declared.side.Side.TheVariants.{Buy, Sell}
@@ -11,7 +11,11 @@ use Rattle.terms.specs.Tops.{top_of}
 use Rattle.market.specs.declared.book.BookNotice.{BookNotice}
 use Rattle.market.specs.declared.book.BookNotice.TheVariants.{Add, Withdraw}
 use Rattle.market.specs.declared.book.BookOrder.{BookOrder}
+use Rattle.market.specs.declared.book.depth.Change.{Change}
+use Rattle.market.specs.declared.book.depth.Change.TheVariants.{Added, Withdrawn}
+use Rattle.market.specs.Faults.{fault_at}
 use Rattle.market.specs.declared.fault.Fault.{Fault}
+use Rattle.market.specs.declared.quoted.Quoted.{Quoted}
 use Rattle.market.specs.declared.fault.Cause.{Cause}
 use Rattle.market.specs.declared.fault.Cause.TheVariants.{OutOfRange, BookFull, OrderNumber}
 
@@ -36,8 +40,7 @@ with_order c s best o = cond (is_at c s o) (joined_to s best o.top) best
 
 -- the best of those orders that are for the component and side, and of what was best before them
 abbrev pub best_among : ℕ → Side → Option Top → List BookOrder → Option Top
-best_among c s best [] = best
-best_among c s best (o ∷ os) = best_among c s (with_order c s best o) os
+best_among c s best os = fold (with_order c s) best os
 
 abbrev pub book_top : List BookOrder → ℕ → Side → Option Top
 book_top os c s = cond (range.component c) (best_among c s None os) None
@@ -50,7 +53,7 @@ abbrev pub holds : ℕ → List BookOrder → Bool
 holds n os = nat_lt (place_of n os) (length os)
 
 abbrev why : ℕ → Cause → Option Fault
-why c k = Some (record { component = c; cause = k })
+why c k = Some (fault_at c k)
 
 -- the lowest cause decides; a component out of range is told as 0
 abbrev pub add_fault : List BookOrder → ℕ → ℕ → Bool → Option Fault
@@ -65,21 +68,30 @@ abbrev pub withdraw_fault : List BookOrder → ℕ → Option Fault
 withdraw_fault os n = cond (range.number n) (cond (holds n os) None (why 0 OrderNumber)) (why 0 OutOfRange)
 
 abbrev pub book_fault : List BookOrder → BookNotice → Option Fault
-book_fault os (Add n c s p u) = add_fault os n c (is_some (top_of p u))
+book_fault os (Add n q) = add_fault os n q.component (is_some (top_of q.price q.customer))
 book_fault os (Withdraw n) = withdraw_fault os n
 
 -- the order that a notice adds
-abbrev pub order_of : ℕ → ℕ → Side → Option Top → Option BookOrder
-order_of n c s t = option_map (λ (x : Top). record { number = n; component = c; side = s; top = x }) t
+abbrev pub order_of : ℕ → Quoted → Option BookOrder
+order_of n q = option_map (λ (x : Top). record { number = n; component = q.component; side = q.side; top = x }) (top_of q.price q.customer)
 
 abbrev pub book_after : List BookOrder → BookNotice → List BookOrder
-book_after os (Add n c s p u) = os ++ option_to_list (order_of n c s (top_of p u))
+book_after os (Add n q) = os ++ option_to_list (order_of n q)
 book_after os (Withdraw n) = remove os (place_of n os)
 
--- one of the orders passes the test
-abbrev pub some_by : (BookOrder → Bool) → List BookOrder → Bool
-some_by p [] = false
-some_by p (o ∷ os) = p o || some_by p os
+-- the order that a notice adds is there
+abbrev pub IsOrder : ℕ → Quoted → BookOrder → Type 0
+IsOrder n q o = order_of n q ≡ Some o
+
+-- what an admitted notice does to the orders, and what that leaves
+abbrev pub changed : List BookOrder → Change → List BookOrder
+changed os (Added o) = os ++ (o ∷ [])
+changed os (Withdrawn i) = remove os i
+
+-- there is room for what is added, and what is withdrawn is there
+abbrev pub Fits : List BookOrder → Change → Type 0
+Fits os (Added o) = length os < 64
+Fits os (Withdrawn i) = i < length os
 
 abbrev pub at_price : ℕ → Side → ℕ → BookOrder → Bool
 at_price c s p o = is_at c s o && o.top.price.cents == p
@@ -93,13 +105,13 @@ customer_at c s p o = at_price c s p o && o.top.customer
 -- some order for the component and side is at the top's price, none is better, and the top is a
 -- customer's exactly if some order there at that price is
 pub record Best (c : ℕ) (s : Side) (os : List BookOrder) (t : Top) : Type 0 where
-  pub there : some_by (at_price c s t.price.cents) os ≡ true
-  pub unbeaten : some_by (beats c s t) os ≡ false
-  pub mark : t.customer ≡ some_by (customer_at c s t.price.cents) os
+  pub there : list_any (at_price c s t.price.cents) os ≡ true
+  pub unbeaten : list_any (beats c s t) os ≡ false
+  pub mark : t.customer ≡ list_any (customer_at c s t.price.cents) os
 
 -- no top where there is no order, else the best
 abbrev pub IsBest : ℕ → Side → List BookOrder → Option Top → Type 0
-IsBest c s os None = some_by (is_at c s) os ≡ false
+IsBest c s os None = list_any (is_at c s) os ≡ false
 IsBest c s os (Some t) = Best c s os t
 
 -- what a book shows of a component in range

@@ -9,5 +9,8 @@ cause_number BookFull = 2
 cause_number OrderNumber = 3
 cause_number OutsideBand = 4
 
+abbrev pub fault_at : ℕ → Cause → Fault
+fault_at c k = record { component = c; cause = k }
+
 abbrev pub outside_band : ℕ → Fault
-outside_band c = record { component = c; cause = OutsideBand }
+outside_band c = fault_at c OutsideBand

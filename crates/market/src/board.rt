@@ -1,4 +1,5 @@
 // A board: one top for each component and side, set or cleared by each notice.
+use crate::quoted::Quoted;
 use terms::side::Side;
 use terms::top::Top;
 
@@ -6,20 +7,18 @@ mod kept;
 
 #[derive(Clone, Copy)]
 pub enum BoardNotice {
-    Set {
-        component: u32,
-        side: Side,
-        price: u32,
-        customer: bool,
-    },
-    Clear {
-        component: u32,
-        side: Side,
-    },
+    Set(Quoted),
+    Clear { component: u32, side: Side },
+}
+
+// The two tops of a component.
+#[derive(Clone, Copy)]
+struct Tops {
+    bid: Option<Top>,
+    offer: Option<Top>,
 }
 
 #[derive(Clone, Copy)]
 pub struct Board {
-    bids: [Option<Top>; 16],
-    offers: [Option<Top>; 16],
+    tops: [Tops; 16],
 }

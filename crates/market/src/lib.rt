@@ -6,4 +6,6 @@ pub mod board;
 pub mod book;
 pub mod fault;
 pub mod interface;
+mod place;
 pub mod quote;
+pub mod quoted;

@@ -5,9 +5,11 @@ ghost use Rattle.terms.specs.Strategies.{legs_of};
 ghost use Rattle.terms.specs.Synthetics.{synthetic_of};
 
 use crate::interface::Market;
+use arrayvec::ArrayVec;
 use terms::side::Side;
 use terms::strategy::Strategy;
 use terms::synthetic::Synthetic;
+use terms::top::Top;
 
 // The SBB (quote `Buy`) or the SBO (quote `Sell`) of the strategy.
 pub fn synthetic<M: Market>(market: &mut M, strategy: &Strategy, quote: Side) -> Option<Synthetic>
@@ -15,12 +17,9 @@ pub fn synthetic<M: Market>(market: &mut M, strategy: &Strategy, quote: Side) ->
     ensures range { IfSome result (λ s. complex_price s.price ≡ true) }
     ensures same { market.new ≡ market.old }
 {
-    let legs = strategy.legs();
-    let mut tops = [None; 4];
-    for i in 0..legs.len() {
-        let leg = &legs[i];
-        let top = market.tell(leg.component, leg.reads(quote));
-        tops[i] = top;
+    let mut tops: ArrayVec<Option<Top>, 4> = ArrayVec::new();
+    for leg in strategy.legs() {
+        tops.push(market.tell(leg.component, leg.reads(quote)));
     }
-    strategy.synthetic(&tops[0..legs.len()])
+    strategy.synthetic(&tops)
 }

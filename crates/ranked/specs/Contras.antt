@@ -1,10 +1,11 @@
 -- How the items of a contra side rank.
 use Rattle.std.specs.Prelude.{ℕ, ◌-◌, Bool, not, ◌&&◌, ℤ, int_lt, nat_le}
+use Rattle.std.specs.declared.cmp.Reverse.{Reverse}
 use Rattle.ranked.specs.declared.contra.ContraItem.{ContraItem}
 use Rattle.ranked.specs.Ranks.{first_by}
 
-abbrev pub contra_rank : ContraItem → ℤ × Bool × ℕ
-contra_rank i = (i.level, i.customer, i.number)
+abbrev pub contra_rank : ContraItem → ℤ × Reverse Bool × ℕ
+contra_rank i = (i.level, record { 0 = i.customer }, i.number)
 
 -- a lower level first; of one level a customer's first, and then the lower number
 abbrev pub contra_before : ContraItem → ContraItem → Bool

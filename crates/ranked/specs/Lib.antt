@@ -4,3 +4,5 @@ pub mod Contras
 pub mod Orders
 pub mod Draws
 pub mod Fields
+pub mod Comparisons
+pub mod ContraLaws

@@ -1,12 +1,11 @@
 -- Where the spellings of a text stand.
-use Rattle.std.proofs.Common.{◌≡◌, ℕ, ◌+◌, ◌-◌, ◌<◌, ◌≤◌, Bool, true, false, cond, ◌&&◌, eqb, List, [], ◌∷◌, length, get_or, take, drop, Some, None, sym, refl, ap, ◌∙◌, add-zero, one-add, arith}
-use Rattle.std.proofs.lemmas.List.{drop_more, drop_all, drop-drop, length-drop, take_rest}
+use Rattle.std.proofs.Common.{◌≡◌, ℕ, ◌+◌, ◌<◌, ◌≤◌, Bool, true, false, cond, ◌&&◌, eqb, List, [], ◌∷◌, ◌++◌, length, get_or, take, drop, sym, refl, ap, ◌∙◌, add-zero, one-add, arith}
+use Rattle.std.proofs.lemmas.List.{drop_all, get_or-drop, length-drop, length-take-le, take-append-drop}
+use Rattle.std.proofs.lemmas.List.Sums.{prefix_len_stops}
 use Rattle.std.proofs.lemmas.Bool.{cond-false}
 use Rattle.std.proofs.lemmas.Bool.Decides.{nat_tests}
 use Rattle.std.specs.List.{prefix_len}
-use Rattle.script.specs.declared.lex.Span.{Span}
-use Rattle.script.specs.Lexed.{Next, begun_at, gap, goes_on, in_word, spanned, spans, spelling_len}
-use Rattle.script.proofs.Runs.{after_run}
+use Rattle.script.specs.Lexed.{Begins, Span, begun_at, gap, goes_on, in_word, spanned, spans, spelling_len}
 
 moved : (i j : ℕ) (xs ys : List ℕ) → i ≡ j → xs ≡ ys → spans i xs ≡ spans j ys
 moved i j xs ys e f = ap (λ k. spans k xs) e ∙ ap (spans j) f
@@ -20,7 +19,7 @@ pub past_gaps : (i : ℕ) (xs : List ℕ) → spans i xs ≡ spans (i + prefix_l
 past_gaps i [] = refl
 past_gaps i (b ∷ bs) = gap_by (gap b) i b (prefix_len gap bs) bs _ (past_gaps (i + 1) bs) (λ e. sym (cond-false (gap b) (spans (i + 1) bs) _ e))
 
-no_gap : (b : ℕ) → in_word b ≡ true → gap b ≡ false
+pub no_gap : (b : ℕ) → in_word b ≡ true → gap b ≡ false
 no_gap b e = grind (arith, nat_tests)
 
 opened : (g w t : Bool) (xs ys zs : List Span) → g ≡ false → w ≡ true → cond g xs (cond (w && t) ys zs) ≡ cond t ys zs
@@ -64,36 +63,37 @@ some_by false false b n e f g = let z : ◌≡◌ {A = Bool} true false = grind 
 some_spelling : (b : ℕ) (bs : List ℕ) → gap b ≡ false → 0 < spelling_len (b ∷ bs)
 some_spelling b bs g = some_by (eqb b 44) (in_word b) b (prefix_len in_word bs) refl refl g
 
-module _ (text : List ℕ) (at n : ℕ) (run : n ≡ prefix_len gap (take (length text - at) (drop at text))) where
-  gaps : n ≡ prefix_len gap (drop at text)
-  gaps = run ∙ ap (prefix_len gap) (take_rest text at)
+at_run : (text xs : List ℕ) (i : ℕ) → drop (prefix_len gap text) text ≡ xs → 0 < length xs → (spans i xs ≡ spanned i (i + spelling_len xs) ∷ spans (i + spelling_len xs) (drop (spelling_len xs) xs)) × (0 < spelling_len xs)
+at_run text [] i e h = absurd (omega arith)
+at_run text (b ∷ bs) i e h =
+    let n : ℕ = prefix_len gap text in
+    let some : n < length text = omega (arith, ap length e, length-drop n text) in
+    let here : get_or text n 0 ≡ b = ap (λ m. get_or text m 0) (sym (add-zero n)) ∙ (sym (get_or-drop n text 0 0) ∙ ap (λ xs. get_or xs 0 0) e) in
+    let g : gap b ≡ false = sym (ap gap here) ∙ prefix_len_stops gap text 0 some in
+    (spelling_at i b bs g, some_spelling b bs g)
 
-  passed : spans at (drop at text) ≡ spans (at + n) (drop (at + n) text)
-  passed =
-      past_gaps at (drop at text)
-      ∙ moved (at + prefix_len gap (drop at text)) (at + n) (drop (prefix_len gap (drop at text)) (drop at text)) (drop (at + n) text)
-      (ap (λ m. at + m) (sym gaps)) (ap (λ m. drop m (drop at text)) (sym gaps) ∙ drop-drop n at text)
+module _ (text left : List ℕ) (cut : drop (prefix_len gap text) text ≡ left) where
+  pub none_left : eqb (length left) 0 ≡ true → (i : ℕ) → spans i text ≡ []
+  none_left e i =
+      let h : length left ≡ 0 = grind (arith, nat_tests) in
+      past_gaps i text
+      ∙ ap (spans (i + prefix_len gap text)) (drop_all (prefix_len gap text) text (omega (arith, length-drop (prefix_len gap text) text, ap length cut)))
 
-  pub none_left : length text ≤ at + n → Next text at None
-  none_left e = passed ∙ ap (spans (at + n)) (drop_all (at + n) text e)
-
-  pub some_left : (m : ℕ) → at + n < length text → m ≡ spelling_len (take (length text - (at + n)) (drop (at + n) text)) → m ≤ length (take (length text - (at + n)) (drop (at + n) text)) → Next text at (Some (spanned (at + n) (at + n + m)))
-  some_left m h e l =
-      let b : ℕ = get_or text (at + n) 0 in
-      let bs : List ℕ = drop (at + n + 1) text in
-      let cut : drop (at + n) text ≡ b ∷ bs = drop_more text (at + n) 0 h in
-      let long : m ≡ spelling_len (b ∷ bs) = e ∙ ap spelling_len (take_rest text (at + n) ∙ cut) in
-      let g : gap b ≡ false = after_run gap (drop at text) b bs (ap (λ k. drop k (drop at text)) (sym gaps) ∙ (drop-drop n at text ∙ cut)) in
-      let size : length (take (length text - (at + n)) (drop (at + n) text)) ≡ length text - (at + n) = ap length (take_rest text (at + n)) ∙ length-drop (at + n) text in (
-        passed
-            ∙ (ap (spans (at + n)) cut
-            ∙ (spelling_at (at + n) b bs g
-            ∙ same_first (at + n) (at + n + spelling_len (b ∷ bs)) (at + n + m) (spans (at + n + spelling_len (b ∷ bs)) (drop (spelling_len (b ∷ bs)) (b ∷ bs))) (spans (at + n + m) (drop (at + n + m) text))
-            (ap (λ k. at + n + k) (sym long))
-            (moved (at + n + spelling_len (b ∷ bs)) (at + n + m) (drop (spelling_len (b ∷ bs)) (b ∷ bs)) (drop (at + n + m) text)
-            (ap (λ k. at + n + k) (sym long))
-            (ap (λ k. drop k (b ∷ bs)) (sym long) ∙ (ap (drop m) (sym cut) ∙ drop-drop m (at + n) text))))),
-        omega arith,
-        omega (arith, some_spelling b bs g, long),
-        omega arith,
-      )
+  pub some_left : (m : ℕ) (spelling rest : List ℕ) → eqb (length left) 0 ≡ false → m ≡ spelling_len left → m ≤ length left → spelling ≡ take m left → rest ≡ drop m left → Begins text spelling rest
+  some_left m spelling rest t e l f g =
+      let k : ℕ = prefix_len gap text in
+      let h : 0 < length left = grind (arith, nat_tests) in
+      let size : length spelling ≡ m = ap length f ∙ length-take-le m left l in
+      let long : spelling_len left ≡ length spelling = sym e ∙ sym size in
+      let after : drop (spelling_len left) left ≡ rest = ap (λ j. drop j left) (sym e) ∙ sym g in
+      record {
+        cut = cut ∙ (sym (take-append-drop m left) ∙ (ap (λ xs. xs ++ drop m left) (sym f) ∙ ap (λ xs. spelling ++ xs) (sym g)));
+        some = omega (arith, (at_run text left 0 cut h).1);
+        first = λ i.
+            past_gaps i text
+            ∙ (ap (spans (i + k)) cut
+            ∙ ((at_run text left (i + k) cut h).0
+            ∙ same_first (i + k) (i + k + spelling_len left) (i + k + length spelling) _ _
+            (ap (λ j. i + k + j) long)
+            (moved (i + k + spelling_len left) (i + k + length spelling) _ rest (ap (λ j. i + k + j) long) after)));
+      }

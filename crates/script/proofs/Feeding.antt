@@ -8,14 +8,15 @@ use Rattle.std.specs.declared.alloc.Global.{Global}
 use Rattle.terms.specs.declared.answer.Placing.{Placing}
 use Rattle.terms.specs.declared.answer.Placing.TheVariants.{Booked, Held}
 use Rattle.terms.specs.declared.answer.Reading.{Reading}
+use Rattle.terms.specs.declared.refusal.Refusal.{Refusal}
 use Rattle.terms.specs.declared.synthetic.Synthetic.{Synthetic}
 use Rattle.terms.specs.Refusals.{Beside, clause, due, fault, nothing, told}
 use Rattle.script.specs.declared.answer.Answer.{Answer}
-use Rattle.script.specs.declared.answer.Answer.TheVariants.{Number, Plain, Placing as Placed, Reading as Read, Refused}
+use Rattle.script.specs.declared.answer.Answer.TheVariants.{Number, Plain, Placing as Placed, Reading as Read}
 use Rattle.script.specs.declared.keyword.Keyword.{Keyword}
-use Rattle.script.specs.declared.keyword.Keyword.TheVariants as key
-use Rattle.script.specs.Answers.{line_of, numbered, one_line, placing_text, price_text, reading_text, text_of}
+use Rattle.script.specs.Answers.{line_of, numbered, one_line, placing_text, price_text, reading_text, said_text, text_of}
 use Rattle.script.specs.Keywords.{spelling}
+use Rattle.script.proofs.Lookups.{every}
 
 joins : (xs ys : List ℕ) → one_line xs ≡ true → one_line ys ≡ true → one_line (xs ++ ys) ≡ true
 joins [] ys e f = f
@@ -91,52 +92,17 @@ text (Number n) = after (codes "number ") (decimal n) refl (number n)
 text (Plain n) = after (codes "answer ") (decimal n) refl (number n)
 text (Placed p) = placing p
 text (Read r) = reading r
-text (Refused r) = after (codes "refused ") (numbered (told r).number (told r).beside) refl (beside (told r).number (told r).beside)
+
+said : (a : Result Answer (Refusal Fault)) → Single (said_text a)
+said (Ok a) = text a
+said (Err r) = after (codes "refused ") (numbered (told r).number (told r).beside) refl (beside (told r).number (told r).beside)
 
 keyword : (k : Keyword) → Single (spelling k)
-keyword key.Market = record { is = refl }
-keyword key.Board = record { is = refl }
-keyword key.Book = record { is = refl }
-keyword key.Band = record { is = refl }
-keyword key.Share = record { is = refl }
-keyword key.ProRata = record { is = refl }
-keyword key.FirstCome = record { is = refl }
-keyword key.List = record { is = refl }
-keyword key.Buy = record { is = refl }
-keyword key.Sell = record { is = refl }
-keyword key.Ratio = record { is = refl }
-keyword key.Open = record { is = refl }
-keyword key.Quote = record { is = refl }
-keyword key.Bid = record { is = refl }
-keyword key.Offer = record { is = refl }
-keyword key.Customer = record { is = refl }
-keyword key.Clear = record { is = refl }
-keyword key.Add = record { is = refl }
-keyword key.Withdraw = record { is = refl }
-keyword key.Order = record { is = refl }
-keyword key.Strategy = record { is = refl }
-keyword key.At = record { is = refl }
-keyword key.Cancel = record { is = refl }
-keyword key.Pair = record { is = refl }
-keyword key.Against = record { is = refl }
-keyword key.Stop = record { is = refl }
-keyword key.Single = record { is = refl }
-keyword key.Last = record { is = refl }
-keyword key.Match = record { is = refl }
-keyword key.To = record { is = refl }
-keyword key.Respond = record { is = refl }
-keyword key.Auction = record { is = refl }
-keyword key.Clock = record { is = refl }
-keyword key.Halt = record { is = refl }
-keyword key.Component = record { is = refl }
-keyword key.Close = record { is = refl }
-keyword key.Settle = record { is = refl }
-keyword key.Read = record { is = refl }
-keyword key.Statement = record { is = refl }
+keyword k = record { is = every (λ j. one_line (spelling j)) refl k }
 
-line : (n : ℕ) (k : Keyword) (a : Answer) → Single (line_of n k a)
-line n k a = joined (decimal n) _ (number n) (after (codes " ") _ refl (joined (spelling k) _ (keyword k) (after (codes ": ") (text_of a) refl (text a))))
+line : (n : ℕ) (k : Keyword) (a : Result Answer (Refusal Fault)) → Single (line_of n k a)
+line n k a = joined (decimal n) _ (number n) (after (codes " ") _ refl (joined (spelling k) _ (keyword k) (after (codes ": ") (said_text a) refl (said a))))
 
-pub single_line : {E : Type 0} (r : Result (String Global) E) (n : ℕ) (k : Keyword) (a : Answer) → IfOk r (λ s. string_bytes s ≡ line_of n k a) → IfOk r (λ s. one_line (string_bytes s) ≡ true)
+pub single_line : {E : Type 0} (r : Result (String Global) E) (n : ℕ) (k : Keyword) (a : Result Answer (Refusal Fault)) → IfOk r (λ s. string_bytes s ≡ line_of n k a) → IfOk r (λ s. one_line (string_bytes s) ≡ true)
 single_line (Ok s) n k a e = ap one_line e ∙ (line n k a).is
 single_line (Err x) n k a e = tt

@@ -1,6 +1,5 @@
 pub mod Lookups
-pub mod Digits
-pub mod Runs
+pub mod Numbers
 pub mod Cutting
 pub mod Lexing
 pub mod Refusing

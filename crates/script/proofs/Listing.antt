@@ -1,70 +1,52 @@
 -- The legs of a list: the steps of the loop that reads them, and what is read of legs in words.
-use Rattle.std.proofs.Common.{◌≡◌, ℕ, ◌+◌, ◌-◌, ◌<◌, ◌≤◌, Bool, true, false, cond, eqb, List, [], ◌∷◌, ◌++◌, length, take, drop, Some, None, Option, sym, refl, ap, ◌∙◌, append_assoc, append-nil, one-add, arith}
-use Rattle.std.proofs.lemmas.List.{drop_all, drop-drop, drop_more, take_rest}
+use Rattle.std.proofs.Common.{◌≡◌, ℕ, zero, suc, ◌<◌, Bool, true, false, eqb, List, [], ◌∷◌, ◌++◌, length, get_or, map, Bor, Some, None, Option, sym, refl, ap, ◌∙◌, arith}
+use Rattle.std.proofs.lemmas.List.{map-append}
 use Rattle.std.proofs.lemmas.Bool.Decides.{nat_tests}
-use Rattle.std.specs.List.{prefix_len}
 use Rattle.terms.specs.declared.leg.Leg.{Leg}
 use Rattle.terms.specs.declared.side.Side.{Side}
 use Rattle.terms.specs.declared.side.Side.TheVariants.{Buy, Sell}
 use Rattle.script.specs.declared.keyword.Keyword.TheVariants.{Ratio}
 use Rattle.script.specs.declared.word.Word.{Word}
-use Rattle.script.specs.declared.word.Word.TheVariants.{Key, Comma, Number}
-use Rattle.script.specs.Legs.{each, leg_of, legs_of, legs_words, leg_with, leg_words, more_words, no_comma, on_first, pieces, side_word, with_leg}
-
--- the pieces after a first one: none at the end, else those after the comma
-abbrev after : List Word → List (List Word)
-after [] = []
-after (w ∷ ws) = pieces ws
-
-piece_by : (t : Bool) (n : ℕ) (w : Word) (ws : List Word) → pieces ws ≡ take n ws ∷ after (drop n ws) → cond t (on_first w (pieces ws)) ([] ∷ pieces ws) ≡ take (cond t (1 + n) 0) (w ∷ ws) ∷ after (drop (cond t (1 + n) 0) (w ∷ ws))
-piece_by true n w ws e = ap (on_first w) e ∙ ap (λ m. take m (w ∷ ws) ∷ after (drop m (w ∷ ws))) (sym (one-add n))
-piece_by false n w ws e = refl
-
-first_piece : (ws : List Word) → pieces ws ≡ take (prefix_len no_comma ws) ws ∷ after (drop (prefix_len no_comma ws) ws)
-first_piece [] = refl
-first_piece (w ∷ ws) = piece_by (no_comma w) (prefix_len no_comma ws) w ws (first_piece ws)
-
--- legs already read, before what is left
-abbrev pub gathered : List Leg → Option (List Leg) → Option (List Leg)
-gathered ls None = None
-gathered ls (Some ms) = Some (ls ++ ms)
-
-pub none_gathered : (o : Option (List Leg)) → gathered [] o ≡ o
-none_gathered None = refl
-none_gathered (Some ls) = refl
-
-one_gathered : (ls : List Leg) (l : Leg) (o : Option (List Leg)) → gathered (ls ++ l ∷ []) o ≡ gathered ls (with_leg (Some l) o)
-one_gathered ls l None = refl
-one_gathered ls l (Some ms) = ap Some (append_assoc ls (l ∷ []) ms)
+use Rattle.script.specs.declared.word.Word.TheVariants.{Key, Number}
+use Rattle.script.specs.Legs.{each, leg_of, legs_of, legs_words, leg_with, leg_words, more_words, pieces, side_word, with_leg}
 
 pub some_words : (ws : List Word) → false ≡ eqb (length ws) 0 → legs_of ws ≡ each (pieces ws)
 some_words [] e = let z : ◌≡◌ {A = Bool} true false = grind (arith, nat_tests) in absurd (grind arith)
 some_words (w ∷ ws) e = refl
 
-module _ (words : List Word) (ls : List Leg) (at n : ℕ) (inv : gathered ls (each (pieces (drop at words))) ≡ each (pieces words)) (run : n ≡ prefix_len no_comma (take (length words - at) (drop at words))) where
-  cut : pieces (drop at words) ≡ take (at + n - at) (drop at words) ∷ after (drop (at + n) words)
-  cut =
-      let e : n ≡ prefix_len no_comma (drop at words) = run ∙ ap (prefix_len no_comma) (take_rest words at) in
-      first_piece (drop at words)
-      ∙ (ap (λ m. take m (drop at words) ∷ after (drop m (drop at words))) (sym e)
-      ∙ (ap (λ m. take m (drop at words) ∷ after (drop n (drop at words))) (omega arith)
-      ∙ ap (λ us. take (at + n - at) (drop at words) ∷ after us) (drop-drop n at words)))
+-- a leg after others, if there are any to come after
+abbrev then_leg : Leg → Option (List Leg) → Option (List Leg)
+then_leg l None = None
+then_leg l (Some ls) = Some (ls ++ l ∷ [])
 
-  step : (o : Option Leg) → o ≡ leg_of (take (at + n - at) (drop at words)) → gathered ls (with_leg o (each (after (drop (at + n) words)))) ≡ each (pieces words)
-  step o e = ap (λ p. gathered ls (with_leg p (each (after (drop (at + n) words))))) e ∙ (sym (ap (λ ps. gathered ls (each ps)) cut) ∙ inv)
+past : (l : Leg) (o : Option Leg) (r : Option (List Leg)) → with_leg o (then_leg l r) ≡ then_leg l (with_leg o r)
+past l None r = refl
+past l (Some m) None = refl
+past l (Some m) (Some ms) = refl
 
-  pub no_leg : (o : Option Leg) → o ≡ leg_of (take (at + n - at) (drop at words)) → o ≡ None → None ≡ each (pieces words)
-  no_leg o e f = step None (sym f ∙ e)
+each_then : (ps : List (List Word)) (p : List Word) (l : Leg) → leg_of p ≡ Some l → each (ps ++ p ∷ []) ≡ then_leg l (each ps)
+each_then [] p l e = ap (λ o. with_leg o (Some [])) e
+each_then (q ∷ ps) p l e = ap (with_leg (leg_of q)) (each_then ps p l e) ∙ past l (leg_of q) (each ps)
 
-  module _ (o : Option Leg) (l : Leg) (ms : List Leg) (e : o ≡ leg_of (take (at + n - at) (drop at words))) (f : o ≡ Some l) (g : ms ≡ ls ++ l ∷ []) where
-    more : gathered ms (each (after (drop (at + n) words))) ≡ each (pieces words)
-    more = ap (λ xs. gathered xs (each (after (drop (at + n) words)))) g ∙ (one_gathered ls l (each (after (drop (at + n) words))) ∙ step (Some l) (sym f ∙ e))
+with_none : (o : Option Leg) → with_leg o None ≡ None
+with_none None = refl
+with_none (Some l) = refl
 
-    pub last_leg : length words ≤ at + n → Some ms ≡ each (pieces words)
-    last_leg h = sym (ap Some (append-nil ms)) ∙ (sym (ap (λ us. gathered ms (each (after us))) (drop_all (at + n) words h)) ∙ more)
+each_none : (all : List (List Word)) (i : ℕ) (d : List Word) → i < length all → leg_of (get_or all i d) ≡ None → each all ≡ None
+each_none [] i d h e = absurd (omega arith)
+each_none (p ∷ ps) zero d h e = ap (λ o. with_leg o (each ps)) e
+each_none (p ∷ ps) (suc i) d h e = ap (with_leg (leg_of p)) (each_none ps i d (omega arith) e) ∙ with_none (leg_of p)
 
-    pub next_leg : at + n < length words → gathered ms (each (pieces (drop (at + n + 1) words))) ≡ each (pieces words)
-    next_leg h = sym (ap (λ us. gathered ms (each (after us))) (drop_more words (at + n) Comma h)) ∙ more
+-- a piece that is no leg
+pub no_leg : (all : List (List Word)) (i : ℕ) (p : List Word) (o : Option Leg) → o ≡ leg_of p → o ≡ None → (i < length all) × (p ≡ get_or all i p) → None ≡ each all
+no_leg all i p o e f (h, g) = sym (each_none all i p h (ap leg_of (sym g) ∙ (sym e ∙ f)))
+
+-- a piece that is a leg
+pub next_leg : (xs : List (Bor (List Word))) (x : Bor (List Word)) (o : Option Leg) (l : Leg) (ls ms : List Leg) → o ≡ leg_of x.now → o ≡ Some l → each (map (λ p. p.now) xs) ≡ Some ls → ms ≡ ls ++ l ∷ [] → each (map (λ p. p.now) (xs ++ x ∷ [])) ≡ Some ms
+next_leg xs x o l ls ms e f g h =
+    ap each (map-append (λ p. p.now) xs (x ∷ []))
+    ∙ (each_then (map (λ p. p.now) xs) x.now l (sym e ∙ f)
+    ∙ (ap (then_leg l) g ∙ ap Some (sym h)))
 
 -- a side is read back from its word
 side_back : (s : Side) (c r : ℕ) → leg_of (Key (side_word s) ∷ Number c ∷ Key Ratio ∷ Number r ∷ []) ≡ Some (leg_with c s r)

@@ -1,8 +1,7 @@
 -- A spelling is looked up among the keywords, and each keyword is found under its own.
-use Rattle.std.proofs.Common.{◌≡◌, ℕ, ◌+◌, ◌<◌, ◌≤◌, Bool, true, false, cond, List, length, get_or, drop, Some, None, Decides, Option, sym, refl, ap, ◌∙◌}
-use Rattle.std.proofs.lemmas.Slice.Eq.{bytes_eq-Decides}
-use Rattle.std.proofs.lemmas.List.{at_drop_more, at_drop_all}
-use Rattle.std.proofs.lemmas.Bool.Decides.{same_from_decides}
+use Rattle.std.proofs.Common.{◌≡◌, ℕ, Bool, true, false, cond, List, [], ◌∷◌, Some, Option, sym, refl, ap, ◌∙◌, arith}
+use Rattle.std.proofs.lemmas.Bool.{and_parts}
+use Rattle.std.specs.List.{find, list_all}
 use Rattle.std.specs.Str.{bytes_eq}
 use Rattle.script.specs.declared.keyword.Keyword.{Keyword}
 use Rattle.script.specs.declared.keyword.Keyword.TheVariants.{Market, Board, Book, Band, Share, ProRata, FirstCome, List as Listing, Buy, Sell, Ratio, Open, Quote, Bid, Offer, Customer, Clear, Add, Withdraw, Order, Strategy, At, Cancel, Pair, Against, Stop, Single, Last, Match, To, Respond, Auction, Clock, Halt, Component, Close, Settle, Read, Statement}
@@ -50,18 +49,20 @@ found Settle = refl
 found Read = refl
 found Statement = refl
 
-module _ (ks : List Keyword) (bs : List ℕ) (i : ℕ) (inv : keyword_in (drop i ks) bs ≡ keyword_in ks bs) where
-  step : (d : Keyword) (b : Bool) → i < length ks → b ≡ bytes_eq (spelling (get_or ks i d)) bs → cond b (Some (get_or ks i d)) (keyword_in (drop (i + 1) ks) bs) ≡ keyword_in ks bs
-  step d b h e = ap (λ t. cond t (Some (get_or ks i d)) (keyword_in (drop (i + 1) ks) bs)) e ∙ (sym (at_drop_more (λ xs. keyword_in xs bs) ks i d h) ∙ inv)
+found_by : {X : Type 0} (p test : X → Bool) (y : X) (ys : List X) (x : X) (t : Bool) → p y ≡ true → (find test ys ≡ Some x → p x ≡ true) → cond t (Some y) (find test ys) ≡ Some x → p x ≡ true
+found_by p test y ys x true e k f = let g : y ≡ x = cc in ap p (sym g) ∙ e
+found_by p test y ys x false e k f = k f
 
-  pub here : (d : Keyword) (t : List ℕ) (b : Bool) → i < length ks → t ≡ spelling (get_or ks i d) → Decides b (t ≡ bs) → b ≡ true → Some (get_or ks i d) ≡ keyword_in ks bs
-  here d t b h e f g = ap (λ t. cond t (Some (get_or ks i d)) (keyword_in (drop (i + 1) ks) bs)) (sym g) ∙ step d b h (same_from_decides _ _ f (bytes_eq-Decides t bs) ∙ ap (λ x. bytes_eq x bs) e)
+found_passes : {X : Type 0} (p test : X → Bool) (xs : List X) (x : X) → list_all p xs ≡ true → find test xs ≡ Some x → p x ≡ true
+found_passes p test [] x e f = let z : ◌≡◌ {A = ℕ} 0 1 = cc in absurd (omega arith)
+found_passes p test (y ∷ ys) x e f =
+    let (first, rest) = and_parts (p y) (list_all p ys) e in
+    found_by p test y ys x (test y) first (found_passes p test ys x rest) f
 
-  pub later : (d : Keyword) (t : List ℕ) (b : Bool) → i < length ks → t ≡ spelling (get_or ks i d) → Decides b (t ≡ bs) → b ≡ false → keyword_in (drop (i + 1) ks) bs ≡ keyword_in ks bs
-  later d t b h e f g = ap (λ t. cond t (Some (get_or ks i d)) (keyword_in (drop (i + 1) ks) bs)) (sym g) ∙ step d b h (same_from_decides _ _ f (bytes_eq-Decides t bs) ∙ ap (λ x. bytes_eq x bs) e)
-
-  pub nowhere : length ks ≤ i → None ≡ keyword_in ks bs
-  nowhere h = sym (at_drop_all (λ xs. keyword_in xs bs) ks i h) ∙ inv
+-- what holds of each of the keywords in turn holds of any
+pub every : (p : Keyword → Bool) → list_all p keywords ≡ true → (k : Keyword) → p k ≡ true
+unfolding keyword_of
+every p e k = found_passes p (λ j. bytes_eq (spelling j) (spelling k)) keywords k e (found k)
 
 pub looked_up : (r : Option Keyword) (ks : List Keyword) (bs : List ℕ) → ks ≡ keywords → r ≡ keyword_in ks bs → r ≡ keyword_of bs
 unfolding keyword_of

@@ -1,24 +1,24 @@
 -- Words that are written one after another are read back.
-use Rattle.std.proofs.Common.{◌≡◌, ℕ, suc, ◌+◌, ◌-◌, ◌^◌, ◌<◌, Bool, true, false, cond, ◌&&◌, eqb, List, [], ◌∷◌, ◌++◌, length, take, drop, pos, negsuc, Some, Ok, Err, decimal, Result, Vec, sym, refl, ap, ◌∙◌, append_assoc, one-add, arith}
+use Rattle.std.proofs.Common.{◌≡◌, ℕ, suc, ◌+◌, ◌-◌, ◌^◌, ◌<◌, Bool, true, false, cond, ◌&&◌, eqb, ltb, List, [], ◌∷◌, ◌++◌, length, take, drop, pos, negsuc, Some, Ok, Err, decimal, Result, Vec, sym, refl, ap, ◌∙◌, append_assoc, one-add, arith}
 use Rattle.std.proofs.lemmas.Fmt.{decimal_nonempty, digits_decimal}
 use Rattle.std.proofs.lemmas.List.{drop_at, length-append, take_all, take_at}
-use Rattle.std.proofs.lemmas.Bool.{and_from, and_parts, cond-true}
+use Rattle.std.proofs.lemmas.Bool.{and_from, and_parts, cond-true, ltb-true}
 use Rattle.std.proofs.lemmas.Bool.Decides.{nat_tests}
 use Rattle.std.specs.declared.alloc.Global.{Global}
 use Rattle.std.specs.List.{prefix_len}
 use Rattle.std.specs.Str.{all_ascii_digits}
 use Rattle.script.specs.declared.keyword.Keyword.{Keyword}
-use Rattle.script.specs.declared.keyword.Keyword.TheVariants as key
-use Rattle.script.specs.declared.lex.Span.{Span}
 use Rattle.script.specs.declared.lex.Unread.{Unread}
 use Rattle.script.specs.declared.lex.Unread.TheVariants.{Memory, Unknown}
 use Rattle.script.specs.declared.word.Word.{Word}
 use Rattle.script.specs.declared.word.Word.TheVariants.{Key, Comma, Number, Negative}
 use Rattle.script.specs.Keywords.{spelling}
-use Rattle.script.specs.Lexed.{AllFit, Gives, Reads, before_comment, gap, in_word, lexed, part, read_at, read_by, spanned, spans, spelling_len, uncommented, written_all}
+use Rattle.script.specs.Lexed.{AllFit, Gives, Reads, Span, before_comment, in_word, lexed, part, read_at, read_by, spanned, spans, spelling_len, uncommented, written_all}
 use Rattle.script.specs.Words.{Fit, word_of, written}
-use Rattle.script.proofs.Cutting.{spelling_at}
-use Rattle.script.proofs.Writing.{own, word_back}
+use Rattle.script.proofs.Cutting.{no_gap, spelling_at}
+use Rattle.script.proofs.Lookups.{every}
+use Rattle.script.proofs.Numbers.{own}
+use Rattle.script.proofs.Writing.{word_back}
 
 -- bytes of one word, none of them a `#`
 abbrev firm : List ℕ → Bool
@@ -26,45 +26,7 @@ firm [] = true
 firm (b ∷ bs) = in_word b && (before_comment b && firm bs)
 
 firm_key : (k : Keyword) → firm (spelling k) ≡ true
-firm_key key.Market = refl
-firm_key key.Board = refl
-firm_key key.Book = refl
-firm_key key.Band = refl
-firm_key key.Share = refl
-firm_key key.ProRata = refl
-firm_key key.FirstCome = refl
-firm_key key.List = refl
-firm_key key.Buy = refl
-firm_key key.Sell = refl
-firm_key key.Ratio = refl
-firm_key key.Open = refl
-firm_key key.Quote = refl
-firm_key key.Bid = refl
-firm_key key.Offer = refl
-firm_key key.Customer = refl
-firm_key key.Clear = refl
-firm_key key.Add = refl
-firm_key key.Withdraw = refl
-firm_key key.Order = refl
-firm_key key.Strategy = refl
-firm_key key.At = refl
-firm_key key.Cancel = refl
-firm_key key.Pair = refl
-firm_key key.Against = refl
-firm_key key.Stop = refl
-firm_key key.Single = refl
-firm_key key.Last = refl
-firm_key key.Match = refl
-firm_key key.To = refl
-firm_key key.Respond = refl
-firm_key key.Auction = refl
-firm_key key.Clock = refl
-firm_key key.Halt = refl
-firm_key key.Component = refl
-firm_key key.Close = refl
-firm_key key.Settle = refl
-firm_key key.Read = refl
-firm_key key.Statement = refl
+firm_key = every (λ k. firm (spelling k)) refl
 
 firm_digits : (ds : List ℕ) → all_ascii_digits ds ≡ true → firm ds ≡ true
 firm_digits [] e = refl
@@ -111,9 +73,6 @@ firm_run (x ∷ xs) ys e =
     let q = and_parts (before_comment x) (firm xs) p.1 in
     cond-true (in_word x) (1 + prefix_len in_word (xs ++ (32 ∷ ys))) 0 p.0 ∙ (ap (λ n. 1 + n) (firm_run xs ys q.1) ∙ one-add (length xs))
 
-no_gap : (b : ℕ) → in_word b ≡ true → gap b ≡ false
-no_gap b e = grind (arith, nat_tests)
-
 no_comma : (b : ℕ) → in_word b ≡ true → eqb b 44 ≡ false
 no_comma b e = grind (arith, nat_tests)
 
@@ -131,45 +90,7 @@ firm_spans i (x ∷ xs) ys e h =
     (ap (λ n. drop n (x ∷ (xs ++ (32 ∷ ys)))) long ∙ drop_at (x ∷ xs) (32 ∷ ys) (length (x ∷ xs)) refl)
 
 some_key : (k : Keyword) → 0 < length (spelling k)
-some_key key.Market = omega arith
-some_key key.Board = omega arith
-some_key key.Book = omega arith
-some_key key.Band = omega arith
-some_key key.Share = omega arith
-some_key key.ProRata = omega arith
-some_key key.FirstCome = omega arith
-some_key key.List = omega arith
-some_key key.Buy = omega arith
-some_key key.Sell = omega arith
-some_key key.Ratio = omega arith
-some_key key.Open = omega arith
-some_key key.Quote = omega arith
-some_key key.Bid = omega arith
-some_key key.Offer = omega arith
-some_key key.Customer = omega arith
-some_key key.Clear = omega arith
-some_key key.Add = omega arith
-some_key key.Withdraw = omega arith
-some_key key.Order = omega arith
-some_key key.Strategy = omega arith
-some_key key.At = omega arith
-some_key key.Cancel = omega arith
-some_key key.Pair = omega arith
-some_key key.Against = omega arith
-some_key key.Stop = omega arith
-some_key key.Single = omega arith
-some_key key.Last = omega arith
-some_key key.Match = omega arith
-some_key key.To = omega arith
-some_key key.Respond = omega arith
-some_key key.Auction = omega arith
-some_key key.Clock = omega arith
-some_key key.Halt = omega arith
-some_key key.Component = omega arith
-some_key key.Close = omega arith
-some_key key.Settle = omega arith
-some_key key.Read = omega arith
-some_key key.Statement = omega arith
+some_key k = ltb-true 0 (length (spelling k)) (every (λ j. ltb 0 (length (spelling j))) refl k)
 
 minus_spans : (n i : ℕ) (ys : List ℕ) → n < 2 ^ 64 → spans i ((45 ∷ decimal n) ++ (32 ∷ ys)) ≡ spanned i (i + length (45 ∷ decimal n)) ∷ spans (i + length (45 ∷ decimal n) + 1) ys
 minus_spans n i ys h = firm_spans i (45 ∷ decimal n) ys (firm_decimal n h) (omega arith)
@@ -223,8 +144,8 @@ retold (Ok v) line e ws h f =
     let g : lexed line ≡ Ok ws = ap lexed f ∙ words_back ws h in
     cc
 retold (Err Memory) line e ws h f = tt
-retold (Err (Unknown s)) line e ws h f =
+retold (Err (Unknown n s)) line e ws h f =
     let g : lexed line ≡ Ok ws = ap lexed f ∙ words_back ws h in
-    let k : lexed line ≡ Err s = e.0 in
+    let k : lexed line ≡ Err (spanned n (n + length s.now)) = e.stops in
     let z : ◌≡◌ {A = ℕ} 0 1 = cc in
     absurd (omega arith)

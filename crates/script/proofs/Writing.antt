@@ -1,22 +1,18 @@
 -- Every word is read back from what is written of it.
-use Rattle.std.proofs.Common.{◌≡◌, ℕ, suc, ◌^◌, ◌<◌, ◌≤◌, true, false, ◌&&◌, eqb, ltb, leb, List, [], ◌∷◌, length, get_or, ℤ, pos, negsuc, Some, None, decimal, Option, sym, refl, ap, ◌∙◌, inl, inr, arith}
+use Rattle.std.proofs.Common.{◌≡◌, ℕ, suc, ◌^◌, ◌<◌, ◌≤◌, true, false, not, ◌&&◌, eqb, ltb, leb, List, [], ◌∷◌, length, get_or, ℤ, pos, negsuc, Some, None, decimal, Option, sym, refl, ap, ◌∙◌, inl, inr, arith}
 use Rattle.std.proofs.lemmas.Fmt.{decimal_nonempty, digits_decimal, digits_value-decimal}
 use Rattle.std.proofs.lemmas.Slice.Eq.{bytes_eq-Decides}
-use Rattle.std.proofs.lemmas.Str.Parse.{IsNumeralModel, numerals_by_fold, tells_all_ascii_digits}
-use Rattle.std.proofs.lemmas.Bool.{and_from, cases_Bool, cond-false, cond-true, leb-true, lt-ltb, ne_eqb}
+use Rattle.std.proofs.lemmas.Bool.{and_from, cases_Bool, cond-false, cond-true, leb-true, lt-ltb, ne_eqb, not-true}
 use Rattle.std.proofs.lemmas.Bool.Decides.{nat_tests}
 use Rattle.std.specs.Option.{option_map}
 use Rattle.std.specs.Str.{all_ascii_digits, bytes_eq}
 use Rattle.script.specs.declared.keyword.Keyword.{Keyword}
-use Rattle.script.specs.declared.keyword.Keyword.TheVariants as key
 use Rattle.script.specs.declared.word.Word.{Word}
 use Rattle.script.specs.declared.word.Word.TheVariants.{Key, Comma, Number, Negative}
 use Rattle.script.specs.Keywords.{keyword_in, keyword_of, keywords, spelling}
 use Rattle.script.specs.Words.{Fit, is_comma, minus, number_below, numeral_of, or_else, plain, read_on, word_of, writes_below, written}
-use Rattle.script.proofs.Lookups.{found}
-
-pub own : IsNumeralModel (λ ds. all_ascii_digits ds ≡ true) (read_on 0)
-own = numerals_by_fold _ tells_all_ascii_digits read_on (record { empty = λ n. refl; more = λ n c cs h. refl })
+use Rattle.script.proofs.Lookups.{every, found}
+use Rattle.script.proofs.Numbers.{own}
 
 read_below : (bound n : ℕ) → n < bound → bound ≤ 4294967296 → number_below bound (decimal n) ≡ Some n
 read_below bound n h k =
@@ -40,45 +36,7 @@ no_comma (c ∷ []) h = ne_eqb c 44 h
 no_comma (c ∷ d ∷ cs) h = refl
 
 letter : (k : Keyword) → leb 97 (get_or (spelling k) 0 0) ≡ true
-letter key.Market = refl
-letter key.Board = refl
-letter key.Book = refl
-letter key.Band = refl
-letter key.Share = refl
-letter key.ProRata = refl
-letter key.FirstCome = refl
-letter key.List = refl
-letter key.Buy = refl
-letter key.Sell = refl
-letter key.Ratio = refl
-letter key.Open = refl
-letter key.Quote = refl
-letter key.Bid = refl
-letter key.Offer = refl
-letter key.Customer = refl
-letter key.Clear = refl
-letter key.Add = refl
-letter key.Withdraw = refl
-letter key.Order = refl
-letter key.Strategy = refl
-letter key.At = refl
-letter key.Cancel = refl
-letter key.Pair = refl
-letter key.Against = refl
-letter key.Stop = refl
-letter key.Single = refl
-letter key.Last = refl
-letter key.Match = refl
-letter key.To = refl
-letter key.Respond = refl
-letter key.Auction = refl
-letter key.Clock = refl
-letter key.Halt = refl
-letter key.Component = refl
-letter key.Close = refl
-letter key.Settle = refl
-letter key.Read = refl
-letter key.Statement = refl
+letter = every (λ k. leb 97 (get_or (spelling k) 0 0)) refl
 
 not_spelled : (k : Keyword) (bs : List ℕ) → get_or bs 0 0 < 97 → bytes_eq (spelling k) bs ≡ false
 not_spelled k bs h =
@@ -115,45 +73,7 @@ minus_back : (n : ℕ) → n < 2147483649 → word_of (45 ∷ decimal n) ≡ Som
 minus_back n h = numeral_only (45 ∷ decimal n) (omega arith) (λ e. omega arith) ∙ ap (option_map minus) (read_below 2147483649 n h (omega arith))
 
 no_comma_word : (k : Keyword) → is_comma (spelling k) ≡ false
-no_comma_word key.Market = refl
-no_comma_word key.Board = refl
-no_comma_word key.Book = refl
-no_comma_word key.Band = refl
-no_comma_word key.Share = refl
-no_comma_word key.ProRata = refl
-no_comma_word key.FirstCome = refl
-no_comma_word key.List = refl
-no_comma_word key.Buy = refl
-no_comma_word key.Sell = refl
-no_comma_word key.Ratio = refl
-no_comma_word key.Open = refl
-no_comma_word key.Quote = refl
-no_comma_word key.Bid = refl
-no_comma_word key.Offer = refl
-no_comma_word key.Customer = refl
-no_comma_word key.Clear = refl
-no_comma_word key.Add = refl
-no_comma_word key.Withdraw = refl
-no_comma_word key.Order = refl
-no_comma_word key.Strategy = refl
-no_comma_word key.At = refl
-no_comma_word key.Cancel = refl
-no_comma_word key.Pair = refl
-no_comma_word key.Against = refl
-no_comma_word key.Stop = refl
-no_comma_word key.Single = refl
-no_comma_word key.Last = refl
-no_comma_word key.Match = refl
-no_comma_word key.To = refl
-no_comma_word key.Respond = refl
-no_comma_word key.Auction = refl
-no_comma_word key.Clock = refl
-no_comma_word key.Halt = refl
-no_comma_word key.Component = refl
-no_comma_word key.Close = refl
-no_comma_word key.Settle = refl
-no_comma_word key.Read = refl
-no_comma_word key.Statement = refl
+no_comma_word k = not-true (is_comma (spelling k)) (every (λ j. not (is_comma (spelling j))) refl k)
 
 key_back : (k : Keyword) → word_of (spelling k) ≡ Some (Key k)
 key_back k =

@@ -1,5 +1,5 @@
 -- The lines printed: what each call answered.
-use Rattle.std.specs.Prelude.{ℕ, Bool, true, cond, not, ◌&&◌, List, [], ◌∷◌, ◌++◌, Some, None, codes, decimal, Option, ◌==◌}
+use Rattle.std.specs.Prelude.{ℕ, Bool, true, cond, not, ◌&&◌, List, [], ◌∷◌, ◌++◌, Some, None, Ok, Err, codes, decimal, Option, Result, ◌==◌}
 use Rattle.std.specs.Fmt.{signed_decimal}
 use Rattle.market.specs.declared.fault.Fault.{Fault}
 use Rattle.market.specs.Faults.{cause_number}
@@ -12,7 +12,7 @@ use Rattle.terms.specs.Refusals.{Beside, nothing, due, fault, clause, Told, told
 use Rattle.script.specs.declared.keyword.Keyword.{Keyword}
 use Rattle.script.specs.Keywords.{spelling}
 use Rattle.script.specs.declared.answer.Answer.{Answer}
-use Rattle.script.specs.declared.answer.Answer.TheVariants.{Number, Plain, Placing as Placed, Reading as Read, Refused}
+use Rattle.script.specs.declared.answer.Answer.TheVariants.{Number, Plain, Placing as Placed, Reading as Read}
 
 -- a synthetic price, with a word where it is a customer's
 abbrev pub price_text : Option Synthetic → List ℕ
@@ -45,11 +45,14 @@ text_of (Number n) = codes "number " ++ decimal n
 text_of (Plain n) = codes "answer " ++ decimal n
 text_of (Placed p) = placing_text p
 text_of (Read r) = reading_text r
-text_of (Refused r) = refusal_text r
+
+abbrev pub said_text : Result Answer (Refusal Fault) → List ℕ
+said_text (Ok a) = text_of a
+said_text (Err r) = refusal_text r
 
 -- the line of the text, the call's word and what it answered
-abbrev pub line_of : ℕ → Keyword → Answer → List ℕ
-line_of line call a = decimal line ++ (codes " " ++ (spelling call ++ (codes ": " ++ text_of a)))
+abbrev pub line_of : ℕ → Keyword → Result Answer (Refusal Fault) → List ℕ
+line_of line call a = decimal line ++ (codes " " ++ (spelling call ++ (codes ": " ++ said_text a)))
 
 -- no line feed
 abbrev pub one_line : List ℕ → Bool

@@ -1,6 +1,7 @@
 -- How words follow one another in a statement.
-use Rattle.std.specs.Prelude.{ℕ, List, [], ◌∷◌, Some, None, Option}
+use Rattle.std.specs.Prelude.{ℕ, cond, List, [], ◌∷◌, Some, None, Option}
 use Rattle.script.specs.declared.keyword.Keyword.{Keyword}
+use Rattle.script.specs.Keywords.{is}
 use Rattle.script.specs.declared.word.Word.{Word}
 use Rattle.script.specs.declared.word.Word.TheVariants.{Key, Comma, Number, Negative}
 
@@ -29,3 +30,11 @@ key_then f (Negative z ∷ ws) = None
 abbrev pub ended : {X : Type 0} → X → List Word → Option X
 ended x [] = Some x
 ended x (w ∷ ws) = None
+
+-- a keyword alone
+abbrev pub only_keyword : List Word → Option Keyword
+only_keyword ws = key_then ended ws
+
+-- what a keyword says, where each of two says one thing
+abbrev pub one_of : {X : Type 0} → Keyword → Keyword × X → Keyword × X → Option X
+one_of k a b = cond (is k a.0) (Some a.1) (cond (is k b.0) (Some b.1) None)

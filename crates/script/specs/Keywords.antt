@@ -1,6 +1,8 @@
 -- The keywords: how each is spelled, and which one a spelling is.
-use Rattle.std.specs.Prelude.{ℕ, Bool, cond, List, [], ◌∷◌, Some, None, codes, Option, ◌==◌}
+use Rattle.std.specs.Prelude.{ℕ, Bool, List, [], ◌∷◌, codes, find, Option}
 use Rattle.std.specs.Str.{bytes_eq}
+use denote.Enum.Bare.{sameb}
+use Rattle.script.specs.contracts.keyword.Keyword.{the_type}
 use Rattle.script.specs.declared.keyword.Keyword.{Keyword}
 use Rattle.script.specs.declared.keyword.Keyword.TheVariants.{Market, Board, Book, Band, Share, ProRata, FirstCome, List as Listing, Buy, Sell, Ratio, Open, Quote, Bid, Offer, Customer, Clear, Add, Withdraw, Order, Strategy, At, Cancel, Pair, Against, Stop, Single, Last, Match, To, Respond, Auction, Clock, Halt, Component, Close, Settle, Read, Statement}
 
@@ -54,54 +56,11 @@ keywords =
 
 -- the first of some keywords that is spelled so
 abbrev pub keyword_in : List Keyword → List ℕ → Option Keyword
-keyword_in [] bs = None
-keyword_in (k ∷ ks) bs = cond (bytes_eq (spelling k) bs) (Some k) (keyword_in ks bs)
+keyword_in ks bs = find (λ k. bytes_eq (spelling k) bs) ks
 
 unfoldable pub keyword_of : List ℕ → Option Keyword
 keyword_of bs = keyword_in keywords bs
 
--- the place of a keyword among all
-abbrev pub rank : Keyword → ℕ
-rank Market = 0
-rank Board = 1
-rank Book = 2
-rank Band = 3
-rank Share = 4
-rank ProRata = 5
-rank FirstCome = 6
-rank Listing = 7
-rank Buy = 8
-rank Sell = 9
-rank Ratio = 10
-rank Open = 11
-rank Quote = 12
-rank Bid = 13
-rank Offer = 14
-rank Customer = 15
-rank Clear = 16
-rank Add = 17
-rank Withdraw = 18
-rank Order = 19
-rank Strategy = 20
-rank At = 21
-rank Cancel = 22
-rank Pair = 23
-rank Against = 24
-rank Stop = 25
-rank Single = 26
-rank Last = 27
-rank Match = 28
-rank To = 29
-rank Respond = 30
-rank Auction = 31
-rank Clock = 32
-rank Halt = 33
-rank Component = 34
-rank Close = 35
-rank Settle = 36
-rank Read = 37
-rank Statement = 38
-
 -- whether two keywords are the same
 abbrev pub is : Keyword → Keyword → Bool
-is a b = rank a == rank b
+is = sameb the_type

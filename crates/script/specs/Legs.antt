@@ -1,5 +1,6 @@
 -- The legs of a list: between commas, each a side, a component and, if said, a ratio.
-use Rattle.std.specs.Prelude.{ℕ, Bool, true, false, cond, List, [], ◌∷◌, Some, None, Option}
+use Rattle.std.specs.Prelude.{ℕ, Bool, true, false, cond, not, List, [], ◌∷◌, Some, None, Option}
+use Rattle.std.specs.List.{slice_split}
 use Rattle.terms.specs.declared.leg.Leg.{Leg}
 use Rattle.terms.specs.declared.side.Side.{Side}
 use Rattle.terms.specs.declared.side.Side.TheVariants.{Buy, Sell}
@@ -7,11 +8,11 @@ use Rattle.script.specs.declared.keyword.Keyword.{Keyword}
 use Rattle.script.specs.declared.keyword.Keyword.TheVariants.{Buy as BuyWord, Sell as SellWord, Ratio}
 use Rattle.script.specs.declared.word.Word.{Word}
 use Rattle.script.specs.declared.word.Word.TheVariants.{Key, Comma, Number, Negative}
-use Rattle.script.specs.Forms.{and_then, ended, key_then, number_then}
+use Rattle.script.specs.Forms.{and_then, ended, key_then, number_then, one_of}
 use Rattle.script.specs.Keywords.{is}
 
 abbrev pub trade_side : Keyword → Option Side
-trade_side k = cond (is k BuyWord) (Some Buy) (cond (is k SellWord) (Some Sell) None)
+trade_side k = one_of k (BuyWord, Buy) (SellWord, Sell)
 
 -- 1 if not said
 abbrev pub ratio_of : List Word → Option ℕ
@@ -30,14 +31,9 @@ no_comma Comma = false
 no_comma (Number n) = true
 no_comma (Negative z) = true
 
-abbrev pub on_first : Word → List (List Word) → List (List Word)
-on_first w [] = (w ∷ []) ∷ []
-on_first w (p ∷ ps) = (w ∷ p) ∷ ps
-
 -- the words between commas
 abbrev pub pieces : List Word → List (List Word)
-pieces [] = [] ∷ []
-pieces (w ∷ ws) = cond (no_comma w) (on_first w (pieces ws)) ([] ∷ pieces ws)
+pieces ws = slice_split (λ w. not (no_comma w)) ws
 
 abbrev pub with_leg : Option Leg → Option (List Leg) → Option (List Leg)
 with_leg None o = None

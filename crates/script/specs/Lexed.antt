@@ -1,10 +1,8 @@
 -- The words of a line.
 use Rattle.std.specs.Prelude.{◌≡◌, ℕ, ◌+◌, ◌-◌, ◌<◌, ◌≤◌, Bool, false, cond, not, ◌&&◌, ◌||◌, List, [], ◌∷◌, ◌++◌, length, take, drop, Some, None, Ok, Err, vec_items, Option, Result, Vec, ◌==◌}
+use Rattle.std.specs.Borrow.{Bor}
 use Rattle.std.specs.declared.alloc.Global.{Global}
 use Rattle.std.specs.List.{prefix_len}
-use Rattle.script.specs.declared.lex.Run.{Run}
-use Rattle.script.specs.declared.lex.Run.TheVariants.{Uncommented, Gap, Word as InWord}
-use Rattle.script.specs.declared.lex.Span.{Span}
 use Rattle.script.specs.declared.lex.Unread.{Unread}
 use Rattle.script.specs.declared.lex.Unread.TheVariants.{Memory, Unknown}
 use Rattle.script.specs.declared.word.Word.{Word}
@@ -22,14 +20,14 @@ gap b = b == 32 || b == 9
 abbrev pub in_word : ℕ → Bool
 in_word b = not (b == 32) && (not (b == 9) && not (b == 44))
 
-abbrev pub in_run : Run → ℕ → Bool
-in_run Uncommented b = before_comment b
-in_run Gap b = gap b
-in_run InWord b = in_word b
-
 -- a line without its comment
 abbrev pub uncommented : List ℕ → List ℕ
 uncommented line = take (prefix_len before_comment line) line
+
+-- a part of a text, from a start to before an end
+pub record Span : Type 0 where
+  pub start : ℕ
+  pub end : ℕ
 
 abbrev pub spanned : ℕ → ℕ → Span
 spanned i j = record { start = i; end = j }
@@ -71,16 +69,29 @@ read_at text (s ∷ ss) = read_by (word_of (part s text)) s (read_at text ss)
 abbrev pub lexed : List ℕ → Result (List Word) Span
 lexed line = read_at (uncommented line) (spans 0 (uncommented line))
 
--- what is left from a place on begins with this part, if with any
-abbrev pub Next : List ℕ → ℕ → Option Span → Type 0
-Next text at None = spans at (drop at text) ≡ []
-Next text at (Some s) = (spans at (drop at text) ≡ s ∷ spans s.end (drop s.end text)) × (at ≤ s.start) × (s.start < s.end) × (s.end ≤ length text)
+-- a text begins with gaps, then with a spelling, and the rest is left, wherever it stands
+pub record Begins (text spelling rest : List ℕ) : Type 0 where
+  pub cut : drop (prefix_len gap text) text ≡ spelling ++ rest
+  pub some : 0 < length spelling
+  pub first : (i : ℕ) → spans i text ≡ spanned (i + prefix_len gap text) (i + prefix_len gap text + length spelling) ∷ spans (i + prefix_len gap text + length spelling) rest
+
+-- the spelling that a text begins with, if any, and what is left after it
+abbrev pub Next : List ℕ → Option (Bor (List ℕ) × Bor (List ℕ)) → Type 0
+Next text None = (i : ℕ) → spans i text ≡ []
+Next text (Some p) = Begins text p.0.now p.1.now
+
+-- the spelling at this byte of the line is its first part that is no word
+pub record FirstUnknown (line : List ℕ) (at : ℕ) (spelling : List ℕ) : Type 0 where
+  pub stops : lexed line ≡ Err (spanned at (at + length spelling))
+  pub some : 0 < length spelling
+  pub within : at + length spelling ≤ length line
+  pub is : spelling ≡ part (spanned at (at + length spelling)) (uncommented line)
 
 -- the words of the line, unless memory fails
 abbrev pub Reads : List ℕ → Result (Vec Word Global) Unread → Type 0
 Reads line (Ok v) = lexed line ≡ Ok (vec_items v)
 Reads line (Err Memory) = Unit {0}
-Reads line (Err (Unknown s)) = (lexed line ≡ Err s) × (s.start < s.end) × (s.end ≤ length line)
+Reads line (Err (Unknown n s)) = FirstUnknown line n s.now
 
 -- words written one after another, with a space after each
 abbrev pub written_all : List Word → List ℕ
@@ -95,4 +106,4 @@ AllFit (w ∷ ws) = Fit w × AllFit ws
 abbrev pub Gives : List Word → Result (Vec Word Global) Unread → Type 0
 Gives ws (Ok v) = vec_items v ≡ ws
 Gives ws (Err Memory) = Unit {0}
-Gives ws (Err (Unknown s)) = ⊥
+Gives ws (Err (Unknown n s)) = ⊥

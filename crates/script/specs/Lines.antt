@@ -4,6 +4,7 @@ use Rattle.market.specs.declared.board.BoardNotice.{BoardNotice}
 use Rattle.market.specs.declared.board.BoardNotice.TheVariants.{Set, Clear}
 use Rattle.market.specs.declared.book.BookNotice.{BookNotice}
 use Rattle.market.specs.declared.book.BookNotice.TheVariants.{Add, Withdraw}
+use Rattle.market.specs.declared.quoted.Quoted.{Quoted}
 use Rattle.std.specs.Option.{option_map}
 use Rattle.terms.specs.declared.leg.Leg.{Leg}
 use Rattle.terms.specs.declared.side.Side.{Side}
@@ -12,14 +13,13 @@ use Rattle.script.specs.declared.keyword.Keyword.{Keyword}
 use Rattle.script.specs.declared.keyword.Keyword.TheVariants as key
 use Rattle.script.specs.declared.line.MarketKind.{MarketKind}
 use Rattle.script.specs.declared.line.MarketKind.TheVariants as kind
-use Rattle.script.specs.declared.line.Quoted.{Quoted}
 use Rattle.script.specs.declared.line.ShareKind.{ShareKind}
 use Rattle.script.specs.declared.line.ShareKind.TheVariants as rule
 use Rattle.script.specs.declared.line.Statement.{Statement}
 use Rattle.script.specs.declared.line.Statement.TheVariants.{Market, Band, Share, List as Listed, Open, Board, Book, Read}
 use Rattle.script.specs.declared.word.Word.{Word}
 use Rattle.script.specs.declared.word.Word.TheVariants.{Key, Number}
-use Rattle.script.specs.Forms.{and_then, ended, key_then, number_then}
+use Rattle.script.specs.Forms.{and_then, ended, key_then, number_then, one_of, only_keyword}
 use Rattle.script.specs.Keywords.{is}
 use Rattle.script.specs.Legs.{legs_of, legs_words}
 
@@ -45,16 +45,16 @@ spoken (Book n) = book n
 spoken (Read n) = reading n
 
 abbrev pub market_of : List Word → Option MarketKind
-market_of ws = key_then (λ k us. cond (is k key.Board) (ended kind.Board us) (cond (is k key.Book) (ended kind.Book us) None)) ws
+market_of ws = and_then (only_keyword ws) (λ k. one_of k (key.Board, kind.Board) (key.Book, kind.Book))
 
 abbrev pub share_of : List Word → Option ShareKind
-share_of ws = key_then (λ k us. cond (is k key.ProRata) (ended rule.ProRata us) (cond (is k key.FirstCome) (ended rule.FirstCome us) None)) ws
+share_of ws = and_then (only_keyword ws) (λ k. one_of k (key.ProRata, rule.ProRata) (key.FirstCome, rule.FirstCome))
 
 abbrev pub only_number : List Word → Option ℕ
 only_number ws = number_then ended ws
 
 abbrev pub quote_side : Keyword → Option Side
-quote_side k = cond (is k key.Bid) (Some Buy) (cond (is k key.Offer) (Some Sell) None)
+quote_side k = one_of k (key.Bid, Buy) (key.Offer, Sell)
 
 abbrev pub mark_of : List Word → Option Bool
 mark_of [] = Some false
@@ -68,13 +68,13 @@ abbrev pub quoted_of : List Word → Option Quoted
 quoted_of ws = number_then (λ c. key_then (λ k. number_then (λ p us. and_then (quote_side k) (λ s. and_then (mark_of us) (λ m. Some (quoted_with c s p m)))))) ws
 
 abbrev pub quote_of : List Word → Option BoardNotice
-quote_of ws = and_then (quoted_of ws) (λ q. Some (Set q.component q.side q.price q.customer))
+quote_of ws = option_map Set (quoted_of ws)
 
 abbrev pub clear_of : List Word → Option BoardNotice
 clear_of ws = number_then (λ c. key_then (λ k us. and_then (quote_side k) (λ s. ended (Clear c s) us))) ws
 
 abbrev pub order_of : ℕ → List Word → Option BookNotice
-order_of n ws = and_then (quoted_of ws) (λ q. Some (Add n q.component q.side q.price q.customer))
+order_of n ws = option_map (λ q. Add n q) (quoted_of ws)
 
 abbrev pub add_of : List Word → Option BookNotice
 add_of ws = number_then order_of ws
@@ -114,15 +114,15 @@ abbrev pub mark_words : Bool → List Word
 mark_words true = Key key.Customer ∷ []
 mark_words false = []
 
-abbrev pub quote_words : ℕ → Side → ℕ → Bool → List Word
-quote_words c s p m = Number c ∷ Key (quote_word s) ∷ Number p ∷ mark_words m
+abbrev pub quote_words : Quoted → List Word
+quote_words q = Number q.component ∷ Key (quote_word q.side) ∷ Number q.price ∷ mark_words q.customer
 
 abbrev pub board_words : BoardNotice → List Word
-board_words (Set c s p m) = Key key.Quote ∷ quote_words c s p m
+board_words (Set q) = Key key.Quote ∷ quote_words q
 board_words (Clear c s) = Key key.Clear ∷ Number c ∷ Key (quote_word s) ∷ []
 
 abbrev pub book_words : BookNotice → List Word
-book_words (Add n c s p m) = Key key.Add ∷ Number n ∷ quote_words c s p m
+book_words (Add n q) = Key key.Add ∷ Number n ∷ quote_words q
 book_words (Withdraw n) = Key key.Withdraw ∷ Number n ∷ []
 
 -- a statement in words

@@ -1,7 +1,10 @@
 // The keywords of the script, each with its spelling.
 ghost use Rattle.std.specs.Prelude.{◌≡◌, Some};
+ghost use Rattle.std.specs.Str.{bytes_eq};
 ghost use Rattle.script.specs.declared.keyword.Keyword.{Keyword};
 ghost use Rattle.script.specs.Keywords.{keyword_in, keyword_of, keywords, spelling};
+
+use std::fmt;
 
 #[derive(Clone, Copy, PartialEq, Eq, Debug)]
 pub enum Keyword {
@@ -46,6 +49,7 @@ pub enum Keyword {
     Statement,
 }
 
+// An enum does not list its values.
 const ALL: [Keyword; 39] = [
     Keyword::Market,
     Keyword::Board,
@@ -136,16 +140,29 @@ impl Keyword {
     }
 }
 
+impl Keyword {
+    fn is_spelled(self, bytes: &[u8]) -> bool
+        ensures { result ≡ bytes_eq (spelling self) bytes.now }
+    {
+        self.spelling().as_bytes() == bytes
+    }
+}
+
+impl fmt::Display for Keyword {
+    ghost output = { λ k. Some (spelling k) };
+
+    fn fmt<W: fmt::Write>(&self, f: &mut fmt::Formatter<W>) -> fmt::Result {
+        f.write_str(self.spelling())
+    }
+}
+
 // The first of these keywords that is spelled so.
 fn spelled_among(some: &[Keyword], bytes: &[u8]) -> Option<Keyword>
     ensures { result ≡ keyword_in some.now bytes.now }
 {
-    for keyword in some {
-        if keyword.spelling().as_bytes() == bytes {
-            return Some(*keyword);
-        }
-    }
-    None
+    some.iter()
+        .find(|keyword| keyword.is_spelled(bytes))
+        .copied()
 }
 
 fn all_keywords() -> &'static [Keyword]
@@ -154,7 +171,7 @@ fn all_keywords() -> &'static [Keyword]
     &ALL
 }
 
-// The keyword that is spelled so.
+// The keyword that is spelled so, if any: there is nothing to tell of a spelling that is none.
 pub fn keyword_of(bytes: &[u8]) -> Option<Keyword>
     ensures value { result ≡ keyword_of bytes.now }
     ensures inverse { (k : Keyword) → keyword_of (spelling k) ≡ Some k }

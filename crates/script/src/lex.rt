@@ -3,64 +3,53 @@ ghost use Rattle.std.specs.Prelude.{◌≡◌, ◌≤◌, List, length};
 ghost use Rattle.std.specs.List.{prefix_len};
 ghost use Rattle.script.specs.declared.lex.Unread.TheVariants.{Memory};
 ghost use Rattle.script.specs.declared.word.Word.{Word};
-ghost use Rattle.script.specs.Lexed.{AllFit, Gives, Next, Reads, in_run, spelling_len, written_all};
+ghost use Rattle.script.specs.Lexed.{AllFit, Gives, Next, Reads, before_comment, gap, in_word, spelling_len, written_all};
 
 use crate::word::{Word, word_of};
 use std::alloc::{AllocFailed, Global};
 
-// A part of a line, from a start to before an end.
-#[derive(Clone, Copy)]
-pub struct Span {
-    pub start: usize,
-    pub end: usize,
-}
-
 // Why a line has no words: want of memory, or the first spelling that is no word.
 #[derive(Clone, Copy)]
-pub enum Unread {
+pub enum Unread<'a> {
     Memory,
-    Unknown(Span),
+    // the spelling, and the byte of the line at which it stands
+    Unknown { at: usize, spelling: &'a [u8] },
 }
 
-impl<T: Drop> From<AllocFailed<T>> for Unread {
+impl<'a, T: Drop> From<AllocFailed<T>> for Unread<'a> {
     ghost from_gives = { λ _ r. r ≡ Memory };
 
-    fn from(_refused: AllocFailed<T>) -> Unread {
+    fn from(_refused: AllocFailed<T>) -> Unread<'a> {
         Unread::Memory
     }
 }
 
-// A run of bytes that a line is cut by: all before a comment, spaces and tabs, or a word.
-#[derive(Clone, Copy)]
-enum Run {
-    Uncommented,
-    Gap,
-    Word,
+// How many bytes stand before the comment of a line, if it has one.
+fn uncommented_len(line: &[u8]) -> usize
+    ensures value { result ≡ prefix_len before_comment line.now }
+    ensures within { result ≤ length line.now }
+{
+    line.iter().take_while(|b| **b != b'#').count()
 }
 
-impl Run {
-    fn has(self, b: u8) -> bool
-        ensures { result ≡ in_run self b }
-    {
-        match self {
-            Run::Uncommented => b != b'#',
-            Run::Gap => b == b' ' || b == b'\t',
-            Run::Word => b != b' ' && b != b'\t' && b != b',',
-        }
-    }
-}
-
-// How many bytes of the run the text begins with.
-fn run_len(run: Run, text: &[u8]) -> usize
-    ensures value { result ≡ prefix_len (in_run run) text.now }
+// How many spaces and tabs the text begins with.
+fn gap_len(text: &[u8]) -> usize
+    ensures value { result ≡ prefix_len gap text.now }
     ensures within { result ≤ length text.now }
 {
-    for (n, b) in text.iter().enumerate() {
-        if !run.has(*b) {
-            return n;
-        }
-    }
-    text.len()
+    text.iter()
+        .take_while(|b| matches!(b, b' ' | b'\t'))
+        .count()
+}
+
+// How many bytes stand before the first gap or comma.
+fn word_len(text: &[u8]) -> usize
+    ensures value { result ≡ prefix_len in_word text.now }
+    ensures within { result ≤ length text.now }
+{
+    text.iter()
+        .take_while(|b| !matches!(b, b' ' | b'\t' | b','))
+        .count()
 }
 
 // How long the spelling is that the text begins with.
@@ -68,44 +57,43 @@ fn spelling_len(text: &[u8]) -> usize
     ensures value { result ≡ spelling_len text.now }
     ensures within { result ≤ length text.now }
 {
-    if let [b',', ..] = text {
-        return 1;
+    match text {
+        [b',', ..] => 1,
+        _ => word_len(text),
     }
-    run_len(Run::Word, text)
 }
 
-// The next spelling from a place on.
-fn next_spelling(text: &[u8], at: usize) -> Option<Span>
-    requires { at ≤ length text.now }
-    ensures { Next text.now at result }
+// The next spelling of a text, and what is left after it.
+fn next_spelling(text: &[u8]) -> Option<(&[u8], &[u8])>
+    ensures { Next text.now result }
 {
-    let start = at + run_len(Run::Gap, &text[at..text.len()]);
-    if start >= text.len() {
+    let (_, text) = text.split_at(gap_len(text));
+    if text.is_empty() {
         return None;
     }
-    let end = start + spelling_len(&text[start..text.len()]);
-    Some(Span { start, end })
+    Some(text.split_at(spelling_len(text)))
 }
 
-fn lexed_words(heap: Global, line: &[u8]) -> Result<Vec<Word>, Unread>
+fn lexed_words(heap: Global, line: &[u8]) -> Result<Vec<Word>, Unread<'_>>
     ensures { Reads line.now result }
 {
-    let text = &line[0..run_len(Run::Uncommented, line)];
+    let text = &line[..uncommented_len(line)];
+    let mut rest = text;
     let mut words = Vec::new(heap);
-    let mut at = 0;
-    while let Some(span) = next_spelling(text, at) {
-        let Span { start, end } = span;
-        let Some(word) = word_of(&text[start..end]) else {
-            return Err(Unread::Unknown(span));
+    // No `for`: the iterator would be a type that holds `rest` and nothing more.
+    while let Some((spelling, after)) = next_spelling(rest) {
+        let Some(word) = word_of(spelling) else {
+            let at = text.len() - after.len() - spelling.len();
+            return Err(Unread::Unknown { at, spelling });
         };
         words.push(word)?;
-        at = end;
+        rest = after;
     }
     Ok(words)
 }
 
 // The words of a line, or why it has none. Words that are written one after another are read back.
-pub fn words(heap: Global, line: &[u8]) -> Result<Vec<Word>, Unread>
+pub fn words(heap: Global, line: &[u8]) -> Result<Vec<Word>, Unread<'_>>
     ensures value { Reads line.now result }
     ensures inverse { (ws : List Word) → AllFit ws → line.now ≡ written_all ws → Gives ws result }
 {

@@ -1,15 +1,16 @@
 // One statement, from the words of its line.
-ghost use Rattle.std.specs.Prelude.{◌≡◌, ◌≤◌, length, IfOk, Some, vec_items};
+ghost use Rattle.std.specs.Prelude.{◌≡◌, IfOk, Some, vec_items};
 ghost use Rattle.std.specs.Option.{option_map};
-ghost use Rattle.std.specs.List.{prefix_len};
 ghost use Rattle.script.specs.declared.word.Word.TheVariants.{Key};
-ghost use Rattle.script.specs.Legs.{leg_of, legs_of, no_comma, ratio_of, trade_side};
-ghost use Rattle.script.specs.Lines.{Spoken, add_of, clear_of, first_of, listing, market_of, mark_of, only_number, order_of, plain_of, quoted_of, quote_of, quote_side, share_of, spoken, statement_of, withdraw_of, words_of};
+ghost use Rattle.script.specs.Forms.{one_of, only_keyword};
+ghost use Rattle.script.specs.Legs.{leg_of, legs_of, ratio_of, trade_side};
+ghost use Rattle.script.specs.Lines.{Spoken, add_of, clear_of, first_of, listing, market_of, mark_of, only_number, plain_of, quoted_of, quote_of, quote_side, share_of, spoken, statement_of, withdraw_of, words_of};
 
 use crate::keyword::Keyword;
 use crate::word::Word;
 use market::board::BoardNotice;
 use market::book::BookNotice;
+use market::quoted::Quoted;
 use std::alloc::{AllocError, Global};
 use terms::leg::Leg;
 use terms::side::Side;
@@ -50,7 +51,7 @@ impl Statement {
             Statement::Share(_) => Keyword::Share,
             Statement::List(_) => Keyword::List,
             Statement::Open(_) => Keyword::Open,
-            Statement::Board(BoardNotice::Set { .. }) => Keyword::Quote,
+            Statement::Board(BoardNotice::Set(_)) => Keyword::Quote,
             Statement::Board(BoardNotice::Clear { .. }) => Keyword::Clear,
             Statement::Book(BookNotice::Add { .. }) => Keyword::Add,
             Statement::Book(BookNotice::Withdraw { .. }) => Keyword::Withdraw,
@@ -59,35 +60,49 @@ impl Statement {
     }
 }
 
-// What a quote and an order of the depth book have in common.
-#[derive(Clone, Copy)]
-struct Quoted {
-    component: u32,
-    side: Side,
-    price: u32,
-    customer: bool,
+// What a keyword says where each of two says one thing.
+fn one_of<T: Copy>(keyword: Keyword, first: (Keyword, T), second: (Keyword, T)) -> Option<T>
+    ensures { result ≡ one_of keyword first second }
+{
+    if keyword == first.0 {
+        Some(first.1)
+    } else if keyword == second.0 {
+        Some(second.1)
+    } else {
+        None
+    }
+}
+
+fn only_keyword(words: &[Word]) -> Option<Keyword>
+    ensures { result ≡ only_keyword words.now }
+{
+    match words {
+        [Word::Key(keyword)] => Some(*keyword),
+        _ => None,
+    }
 }
 
 fn market_kind(words: &[Word]) -> Option<MarketKind>
     ensures { result ≡ market_of words.now }
 {
-    match words {
-        [Word::Key(Keyword::Board)] => Some(MarketKind::Board),
-        [Word::Key(Keyword::Book)] => Some(MarketKind::Book),
-        _ => None,
-    }
+    one_of(
+        only_keyword(words)?,
+        (Keyword::Board, MarketKind::Board),
+        (Keyword::Book, MarketKind::Book),
+    )
 }
 
 fn share_kind(words: &[Word]) -> Option<ShareKind>
     ensures { result ≡ share_of words.now }
 {
-    match words {
-        [Word::Key(Keyword::ProRata)] => Some(ShareKind::ProRata),
-        [Word::Key(Keyword::FirstCome)] => Some(ShareKind::FirstCome),
-        _ => None,
-    }
+    one_of(
+        only_keyword(words)?,
+        (Keyword::ProRata, ShareKind::ProRata),
+        (Keyword::FirstCome, ShareKind::FirstCome),
+    )
 }
 
+// Not one with the keyword's: a pattern names its case, and says it shorter than a parameter would.
 fn only_number(words: &[Word]) -> Option<u32>
     ensures { result ≡ only_number words.now }
 {
@@ -100,11 +115,11 @@ fn only_number(words: &[Word]) -> Option<u32>
 fn quote_side(keyword: Keyword) -> Option<Side>
     ensures { result ≡ quote_side keyword }
 {
-    match keyword {
-        Keyword::Bid => Some(Side::Buy),
-        Keyword::Offer => Some(Side::Sell),
-        _ => None,
-    }
+    one_of(
+        keyword,
+        (Keyword::Bid, Side::Buy),
+        (Keyword::Offer, Side::Sell),
+    )
 }
 
 // Whether a customer's, at the end of a line.
@@ -143,18 +158,7 @@ fn quoted_words(words: &[Word]) -> Option<Quoted>
 fn quote(words: &[Word]) -> Option<BoardNotice>
     ensures { result ≡ quote_of words.now }
 {
-    let Quoted {
-        component,
-        side,
-        price,
-        customer,
-    } = quoted_words(words)?;
-    Some(BoardNotice::Set {
-        component,
-        side,
-        price,
-        customer,
-    })
+    Some(BoardNotice::Set(quoted_words(words)?))
 }
 
 fn clear(words: &[Word]) -> Option<BoardNotice>
@@ -170,32 +174,17 @@ fn clear(words: &[Word]) -> Option<BoardNotice>
     })
 }
 
-fn order(number: u32, words: &[Word]) -> Option<BookNotice>
-    ensures { result ≡ order_of number words.now }
-{
-    let Quoted {
-        component,
-        side,
-        price,
-        customer,
-    } = quoted_words(words)?;
-    Some(BookNotice::Add {
-        number,
-        component,
-        side,
-        price,
-        customer,
-    })
-}
-
 fn add(words: &[Word]) -> Option<BookNotice>
     ensures { result ≡ add_of words.now }
 {
-    let (first, rest) = words.split_first()?;
-    match first {
-        Word::Number(number) => order(*number, rest),
-        _ => None,
-    }
+    let [Word::Number(number), rest @ ..] = words else {
+        return None;
+    };
+    let quoted = quoted_words(rest)?;
+    Some(BookNotice::Add {
+        number: *number,
+        quoted,
+    })
 }
 
 fn withdraw(words: &[Word]) -> Option<BookNotice>
@@ -226,11 +215,11 @@ fn plain_statement(keyword: Keyword, words: &[Word]) -> Option<Statement>
 fn trade_side(keyword: Keyword) -> Option<Side>
     ensures { result ≡ trade_side keyword }
 {
-    match keyword {
-        Keyword::Buy => Some(Side::Buy),
-        Keyword::Sell => Some(Side::Sell),
-        _ => None,
-    }
+    one_of(
+        keyword,
+        (Keyword::Buy, Side::Buy),
+        (Keyword::Sell, Side::Sell),
+    )
 }
 
 // The ratio of a leg, 1 if not said.
@@ -259,68 +248,36 @@ fn one_leg(words: &[Word]) -> Option<Leg>
     })
 }
 
-fn is_no_comma(word: &Word) -> bool
-    ensures { result ≡ no_comma word.now }
-{
-    match word {
-        Word::Comma => false,
-        _ => true,
-    }
-}
-
-// How many words stand before the first comma.
-fn until_comma(words: &[Word]) -> usize
-    ensures value { result ≡ prefix_len no_comma words.now }
-    ensures within { result ≤ length words.now }
-{
-    for (n, word) in words.iter().enumerate() {
-        if !is_no_comma(word) {
-            return n;
-        }
-    }
-    words.len()
-}
-
 // The legs that stand between commas.
 fn legs(heap: Global, words: &[Word]) -> Result<Option<Vec<Leg>>, AllocError>
     ensures { IfOk result (λ o. option_map vec_items o ≡ legs_of words.now) }
 {
     let mut legs = Vec::new(heap);
+    // `split` gives one piece of no words.
     if words.is_empty() {
         return Ok(Some(legs));
     }
-    let mut at = 0;
-    loop {
-        let end = at + until_comma(&words[at..words.len()]);
-        let Some(leg) = one_leg(&words[at..end]) else {
+    for piece in words.split(|word| matches!(word, Word::Comma)) {
+        let Some(leg) = one_leg(piece) else {
             return Ok(None);
         };
         legs.push(leg)?;
-        if end >= words.len() {
-            return Ok(Some(legs));
-        }
-        at = end + 1;
     }
+    Ok(Some(legs))
 }
 
 fn list_statement(heap: Global, words: &[Word]) -> Result<Option<Statement>, AllocError>
     ensures { IfOk result (λ o. option_map spoken o ≡ option_map listing (legs_of words.now)) }
 {
-    match legs(heap, words)? {
-        Some(legs) => Ok(Some(Statement::List(legs))),
-        None => Ok(None),
-    }
+    Ok(legs(heap, words)?.map(Statement::List))
 }
 
 fn parsed(heap: Global, words: &[Word]) -> Result<Option<Statement>, AllocError>
     ensures { IfOk result (λ o. option_map spoken o ≡ statement_of words.now) }
 {
-    let Some((first, rest)) = words.split_first() else {
-        return Ok(None);
-    };
-    match first {
-        Word::Key(Keyword::List) => list_statement(heap, rest),
-        Word::Key(keyword) => Ok(plain_statement(*keyword, rest)),
+    match words {
+        [Word::Key(Keyword::List), rest @ ..] => list_statement(heap, rest),
+        [Word::Key(keyword), rest @ ..] => Ok(plain_statement(*keyword, rest)),
         _ => Ok(None),
     }
 }

@@ -1,8 +1,9 @@
 // One word of a line: a keyword, a comma or a number, from the bytes that spell it.
-ghost use Rattle.std.specs.Prelude.{◌≡◌, ◌^◌, ◌<◌, ◌≤◌, pos, neg_ℤ, IfSome, Some};
+ghost use Rattle.std.specs.Prelude.{◌≡◌, ◌≢◌, drop, slice_index, Some};
 ghost use Rattle.std.specs.Option.{option_map};
 ghost use Rattle.script.specs.declared.word.Word.{Word};
-ghost use Rattle.script.specs.Words.{Fit, minus, number_below, numeral_of, plain, word_of, written};
+ghost use Rattle.script.specs.declared.word.Word.TheVariants.{Negative};
+ghost use Rattle.script.specs.Words.{Fit, minus, number_below, numeral_of, word_of, written};
 
 use crate::keyword::{Keyword, keyword_of};
 
@@ -16,61 +17,30 @@ pub enum Word {
     Negative(i32),
 }
 
-// The number that one decimal digit or more write, if it is below the bound.
-fn number_below(bound: u64, digits: &[u8]) -> Option<u64>
-    requires low { 0 < bound }
-    requires high { bound ≤ 2 ^ 32 }
-    ensures value { result ≡ number_below bound digits.now }
-    ensures within { IfSome result (λ n. n < bound) }
+// Two functions, since a generic `parse` has no clause that says which number it reads.
+fn unsigned_number(text: &str) -> Option<u32>
+    requires { slice_index text.now 0 ≢ 43 }
+    ensures { result ≡ number_below 4294967296 text.now }
 {
-    if digits.is_empty() {
-        return None;
-    }
-    let mut n: u64 = 0;
-    for digit in digits {
-        if !digit.is_ascii_digit() {
-            return None;
-        }
-        n = n * 10 + (*digit - b'0') as u64;
-        if n >= bound {
-            return None;
-        }
-    }
-    Some(n)
+    text.parse().ok()
 }
 
-fn minus(n: u64) -> i32
-    requires { n ≤ 2147483648 }
-    ensures { result ≡ neg_ℤ (pos n) }
+fn negative_number(text: &str) -> Option<i32>
+    requires { slice_index text.now 0 ≡ 45 }
+    ensures { option_map Negative result ≡ option_map minus (number_below 2147483649 (drop 1 text.now)) }
 {
-    (-(n as i64)) as i32
+    text.parse().ok()
 }
 
-fn signed_number(digits: &[u8]) -> Option<Word>
-    ensures { result ≡ option_map minus (number_below 2147483649 digits.now) }
-{
-    match number_below(2147483649, digits) {
-        Some(n) => Some(Word::Negative(minus(n))),
-        None => None,
-    }
-}
-
-fn unsigned_number(digits: &[u8]) -> Option<Word>
-    ensures { result ≡ option_map plain (number_below 4294967296 digits.now) }
-{
-    match number_below(4294967296, digits) {
-        Some(n) => Some(Word::Number(n as u32)),
-        None => None,
-    }
-}
-
-// The number that is written so.
+// The number that is written so: `parse` would also take one with a `+`.
 fn numeral(bytes: &[u8]) -> Option<Word>
     ensures { result ≡ numeral_of bytes.now }
 {
+    let text = str::from_utf8(bytes).ok()?;
     match bytes {
-        [b'-', digits @ ..] => signed_number(digits),
-        _ => unsigned_number(bytes),
+        [b'+', ..] => None,
+        [b'-', ..] => negative_number(text).map(Word::Negative),
+        _ => unsigned_number(text).map(Word::Number),
     }
 }
 

@@ -1,6 +1,6 @@
 -- What each call says and leaves, on the abstract state. Rows are tried in the order of their
 -- numbers, and the first that applies refuses.
-use Rattle.std.specs.Prelude.{◌≡◌, ℕ, ◌+◌, ◌-◌, Bool, true, false, cond, not, List, [], ◌∷◌, ◌++◌, length, Some, None, sum_by, count_by, Option, nat_le, nat_lt, slice_index_or}
+use Rattle.std.specs.Prelude.{◌≡◌, ℕ, ◌+◌, ◌-◌, Bool, true, false, cond, not, List, [], ◌∷◌, ◌++◌, length, Some, None, sum_by, count_by, Option, Result, nat_le, nat_lt, slice_index_or}
 use Rattle.std.specs.Option.{option_map}
 use Rattle.terms.specs.declared.answer.Placing.{Placing}
 use Rattle.terms.specs.declared.answer.Placing.TheVariants.{Booked}
@@ -11,7 +11,9 @@ use Rattle.terms.specs.declared.side.Side.TheVariants.{Buy, Sell}
 use Rattle.terms.specs.declared.top.Top.{Top}
 use Rattle.terms.specs.Legs.{well_formed}
 use Rattle.terms.specs.Ranges as range
-use Rattle.terms.specs.Refusals.{Said, Told, answered, due, fault, nothing, refused, row}
+use Rattle.terms.specs.Refusals.{Said, Told, answered, due, fault, nothing, refused, row, told}
+use Rattle.terms.specs.declared.refusal.Refusal.{Refusal}
+use Rattle.std.specs.Result.{result_err}
 use Rattle.terms.specs.Synthetics.{synthetic_of}
 use Rattle.session.specs.declared.rows.Standing.TheVariants as standing
 use Rattle.session.specs.declared.state.Phase.{Phase}
@@ -54,6 +56,10 @@ due_count s = count_by (counted standing.Due) s.auctions
 -- rows 1 and 2, before the rows of a call that belongs to the phase or not
 abbrev pub unless_due : {Mo S F : Type 0} → State Mo S → Bool → Option (Told F) → Option (Told F)
 unless_due s inPhase later = when (not inPhase) (row 1 nothing) (when (nat_lt 0 (due_count s)) (row 2 (due (due_count s))) later)
+
+-- how a result refuses, if it does
+abbrev pub refusal_of : {A F : Type 0} → Result A (Refusal F) → Option (Told F)
+refusal_of r = option_map told (result_err r)
 
 abbrev pub list_rows : {Mo S F : Type 0} → State Mo S → List Leg → Option (Told F)
 list_rows s legs =

@@ -1,7 +1,7 @@
 // Counts over the tables of a session.
-ghost use Rattle.std.specs.Prelude.{◌≡◌, ◌≤◌, map, length, if◌then◌else◌, sum_by, count_by};
-ghost use Rattle.terms.specs.Tables.{entries};
+ghost use Rattle.std.specs.Prelude.{◌≡◌, ◌≤◌, map, sum_by, count_by};
 ghost use Rattle.std.specs.Option.{option_map};
+ghost use Rattle.terms.specs.Tables.{entries};
 ghost use Rattle.terms.specs.Strategies.{legs_of};
 ghost use Rattle.session.specs.Steps.{strategy_at};
 ghost use Rattle.session.specs.Rows.{counted, resting};
@@ -12,7 +12,8 @@ use terms::side::Side;
 use terms::strategy::Strategy;
 use terms::table::Table;
 
-// Which auctions to count: all that are due, or those of a strategy that are running or due.
+// Which auctions to count: all that are due, or those of a strategy that are running or due. A
+// value and no test of the caller's own, for these three are all that a session tells.
 #[derive(Clone, Copy)]
 pub enum Standing {
     Due,
@@ -28,10 +29,7 @@ impl Standing {
         let Some(auction) = row else {
             return false;
         };
-        let running = match auction.stage {
-            Stage::Running => true,
-            Stage::Due | Stage::Halted => false,
-        };
+        let running = matches!(auction.stage, Stage::Running);
         match self {
             Standing::Due => !running,
             Standing::DueIn(strategy) => !running && auction.strategy == strategy,
@@ -40,23 +38,12 @@ impl Standing {
     }
 }
 
-fn one_if(one: bool) -> u32
-    ensures value { result ≡ (if one then 1 else 0) }
-    ensures bound { result ≤ 1 }
-{
-    if one { 1 } else { 0 }
-}
-
 // How many auctions of the table are counted.
 pub fn tally(rows: &[Option<AuctionRow>; 8], which: Standing) -> u32
     ensures value { result ≡ count_by (counted which) rows.now }
     ensures bound { result ≤ 8 }
 {
-    let mut n = 0;
-    for row in rows {
-        n += one_if(which.counts(row));
-    }
-    n
+    rows.iter().filter(|row| which.counts(row)).count() as u32
 }
 
 // The contracts of an order, if it rests in this strategy and on this side.
@@ -71,33 +58,21 @@ fn contracts(order: &Order, strategy: u32, side: Side) -> u64
     }
 }
 
-// The contracts resting in a strategy on one side, among so few orders that the sum fits.
-fn contracts_among(orders: &[Order], strategy: u32, side: Side) -> u64
-    requires { length orders.now ≤ 64 }
-    ensures { result ≡ sum_by (resting strategy side) orders.now }
-{
-    let mut sum = 0;
-    for order in orders {
-        sum += contracts(order, strategy, side);
-    }
-    sum
-}
-
 // The contracts resting in a strategy on one side.
 pub fn contracts_resting(orders: &Table<Order, 64>, strategy: u32, side: Side) -> u64
     ensures { result ≡ sum_by (resting strategy side) (entries orders.now) }
 {
-    contracts_among(orders.entries(), strategy, side)
+    orders
+        .entries()
+        .iter()
+        .map(|order| contracts(order, strategy, side))
+        .sum()
 }
 
 // The strategy of this number, from 1, among those listed.
 pub(crate) fn strategy_at(listed: &Table<Strategy, 8>, number: u32) -> Option<Strategy>
     ensures { option_map legs_of result ≡ strategy_at (map legs_of (entries listed.now)) number }
 {
-    let listed = listed.entries();
-    if number < 1 || number as usize > listed.len() {
-        return None;
-    }
-    let strategy = &listed[number as usize - 1];
-    Some(*strategy)
+    let index = number.checked_sub(1)?;
+    listed.entries().get(index as usize).copied()
 }

@@ -4,6 +4,7 @@ use terms::order::{Order, Response};
 use terms::strategy::Strategy;
 use terms::table::Table;
 
+mod due;
 mod list;
 mod notice;
 mod open;
@@ -25,7 +26,8 @@ pub struct Halts {
     pub components: [bool; 16],
 }
 
-// A session over a market, with a share rule.
+// A session over a market, with a share rule. Its abstract state is `view` of specs/Views.antt, which
+// is given the market's model: a `Model` of its own could not speak of that.
 #[derive(Drop)]
 pub struct Session<M, S> {
     market: M,

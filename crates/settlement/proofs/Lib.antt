@@ -1,12 +1,10 @@
-pub mod Writing
 pub mod Picking
-pub mod Draining
-pub mod Seeing
+pub mod Writing
+pub mod Giving
 pub mod Grouping
 pub mod Dealing
 pub mod Sharing
 pub mod Leveling
 pub mod Stepping
 pub mod Showing
-pub mod Ending
 pub mod Closing

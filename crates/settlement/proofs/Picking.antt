@@ -1,26 +1,53 @@
 -- Picking items out of a list, one after the other.
-use Rattle.std.proofs.Common.{◌≡◌, ℕ, ◌+◌, ◌<◌, ◌≤◌, Bool, true, false, cond, List, [], ◌∷◌, ◌++◌, length, get_or, take, set, filter, sym, ap, ◌∙◌, arith}
+use Rattle.std.proofs.Common.{◌≡◌, ℕ, ◌+◌, ◌<◌, Bool, true, false, cond, ◌||◌, List, [], ◌∷◌, ◌++◌, length, get_or, take, filter, sym, refl, ap, ◌∙◌}
 use Rattle.std.proofs.lemmas.List.Elements.{filter-append}
-use Rattle.std.proofs.lemmas.List.{take_all, take_more, take_more_set}
+use Rattle.std.proofs.lemmas.List.{append_assoc, append-nil, take_more}
+use Rattle.std.specs.List.{list_any}
+use Rattle.contra.specs.Kinds.{firsts, some}
 
-pub one_kept : {X : Type 0} (b : Bool) (count : ℕ) (x : X) → true ≡ b → count + 1 ≡ count + length (cond b (x ∷ []) [])
-one_kept b count x e = rw (← e)
+-- the items that pass, one place on
+module _ {X : Type 0} (p : X → Bool) (xs found : List X) (i : ℕ) (inv : found ≡ filter p (take i xs)) (d : X) (h : i < length xs) where
+  one_on : filter p (take (i + 1) xs) ≡ found ++ filter p (get_or xs i d ∷ [])
+  one_on =
+      ap (filter p) (take_more xs i d h)
+      ∙ (filter-append p (take i xs) (get_or xs i d ∷ []) ∙ ap (λ l. l ++ filter p (get_or xs i d ∷ [])) (sym inv))
 
-pub kept_there : {X : Type 0} (b : Bool) (into : List X) (count : ℕ) (x : X) → true ≡ b → count < length into → take (count + 1) (set into count x) ≡ take count into ++ cond b (x ∷ []) []
-kept_there b into count x e h = rw (← e) (take_more_set into count x h)
+  pub pick_on : true ≡ p (get_or xs i d) → found ++ get_or xs i d ∷ [] ≡ filter p (take (i + 1) xs)
+  pick_on e = sym (one_on ∙ ap (λ b. found ++ cond b (get_or xs i d ∷ []) []) (sym e))
 
-few_kept : {X : Type 0} (p : X → Bool) (x : X) → length (filter p (x ∷ [])) ≤ 1
-few_kept p x = elim (p x) as (λ b. length (cond b (x ∷ []) []) ≤ 1) [ true ↦ omega arith | false ↦ omega arith ]
+  pub pass_on : false ≡ p (get_or xs i d) → found ≡ filter p (take (i + 1) xs)
+  pass_on e = sym (one_on ∙ (ap (λ b. found ++ cond b (get_or xs i d ∷ []) []) (sym e) ∙ append-nil found))
 
-module _ {X : Type 0} (p : X → Bool) (xs into : List X) (i n : ℕ) (few : n ≤ i) (front : take n into ≡ filter p (take i xs)) where
-  pub pick_few : (d : X) (r : ℕ) → r ≡ n + length (filter p (get_or xs i d ∷ [])) → r ≤ i + 1
-  pick_few d r e = omega (arith, few_kept p (get_or xs i d))
+some_any : {X : Type 0} (p : X → Bool) (xs : List X) → some p xs ≡ list_any p xs
+unfolding some
+some_any p [] = refl
+some_any p (x ∷ xs) = ap (λ b. p x || b) (some_any p xs)
 
-  pub pick_on : (d : X) (r : ℕ) (now : List X) → i < length xs → take r now ≡ take n into ++ filter p (get_or xs i d ∷ []) → take r now ≡ filter p (take (i + 1) xs)
-  pick_on d r now h e =
-      e
-      ∙ (ap (λ l. l ++ filter p (get_or xs i d ∷ [])) front
-      ∙ (sym (filter-append p (take i xs) (get_or xs i d ∷ [])) ∙ ap (filter p) (sym (take_more xs i d h))))
+-- the first items of each kind, with one item more
+firsts_more : {X : Type 0} (same : X → X → Bool) (seen xs : List X) (x : X) → firsts same seen (xs ++ x ∷ []) ≡ firsts same seen xs ++ cond (some (same x) (seen ++ xs)) [] (x ∷ [])
+unfolding firsts
+firsts_more same seen [] x = ap (λ l. cond (some (same x) l) [] (x ∷ [])) (sym (append-nil seen))
+firsts_more same seen (y ∷ ys) x =
+    let e = firsts_more same (seen ++ y ∷ []) ys x ∙ ap (λ l. firsts same (seen ++ y ∷ []) ys ++ cond (some (same x) l) [] (x ∷ [])) (append_assoc seen (y ∷ []) ys) in
+    elim (some (same y) seen) as (λ b. cond b (firsts same (seen ++ y ∷ []) (ys ++ x ∷ [])) (y ∷ firsts same (seen ++ y ∷ []) (ys ++ x ∷ [])) ≡ cond b (firsts same (seen ++ y ∷ []) ys) (y ∷ firsts same (seen ++ y ∷ []) ys) ++ cond (some (same x) (seen ++ y ∷ ys)) [] (x ∷ [])) [
+      | true ↦ e
+      | false ↦ ap (λ l. y ∷ l) e
+    ]
 
-  pub pick_all : length xs ≤ i → take n into ≡ filter p xs
-  pick_all h = front ∙ ap (filter p) (take_all i xs h)
+module _ {X : Type 0} (same : X → X → Bool) (xs found : List X) (i : ℕ) (inv : found ≡ firsts same [] (take i xs)) (d : X) (h : i < length xs) (b : Bool) (said : b ≡ list_any (same (get_or xs i d)) (take i xs)) where
+  first_on : firsts same [] (take (i + 1) xs) ≡ found ++ cond b [] (get_or xs i d ∷ [])
+  first_on =
+      ap (firsts same []) (take_more xs i d h)
+      ∙ (firsts_more same [] (take i xs) (get_or xs i d)
+      ∙ (ap (λ l. l ++ cond (some (same (get_or xs i d)) (take i xs)) [] (get_or xs i d ∷ [])) (sym inv)
+      ∙ ap (λ c. found ++ cond c [] (get_or xs i d ∷ [])) (some_any (same (get_or xs i d)) (take i xs) ∙ sym said)))
+
+  pub first_found : false ≡ b → found ++ get_or xs i d ∷ [] ≡ firsts same [] (take (i + 1) xs)
+  first_found e = sym (first_on ∙ ap (λ c. found ++ cond c [] (get_or xs i d ∷ [])) (sym e))
+
+  pub none_found : true ≡ b → found ≡ firsts same [] (take (i + 1) xs)
+  none_found e = sym (first_on ∙ (ap (λ c. found ++ cond c [] (get_or xs i d ∷ [])) (sym e) ∙ append-nil found))
+
+pub no_firsts : {X : Type 0} (same : X → X → Bool) → firsts same [] [] ≡ []
+unfolding firsts
+no_firsts same = refl

@@ -1,9 +1,7 @@
 -- Records shown one after the other in place.
-use Rattle.std.proofs.Common.{◌≡◌, ℕ, ◌+◌, ◌<◌, ◌≤◌, List, ◌++◌, map, length, get_or, take, drop, set, sym, ap, ◌∙◌, subst, arith}
+use Rattle.std.proofs.Common.{◌≡◌, ℕ, ◌+◌, ◌<◌, List, ◌++◌, map, length, get_or, take, drop, set, ap, ◌∙◌, arith}
 use Rattle.std.proofs.lemmas.List.Edits.{map_over_more}
-use Rattle.std.proofs.ByRecursion.{All-get_or}
-use Rattle.std.proofs.lemmas.List.{append-nil, drop_all, drop_more, get_or_at, get_or_default, length-map, length-take-le, take_all}
-use Rattle.std.specs.List.{AllByRecursion}
+use Rattle.std.proofs.lemmas.List.{drop_more, get_or_at, get_or_default, length-map, length-take-le}
 
 module _ {X : Type 0} (f : X → X) (old now : List X) (i : ℕ) (inv : now ≡ map f (take i old) ++ drop i old) where
   module _ (h : i < length old) where
@@ -12,14 +10,8 @@ module _ {X : Type 0} (f : X → X) (old now : List X) (i : ℕ) (inv : now ≡ 
         ap (λ l. get_or l i d) (inv ∙ ap (λ l. map f (take i old) ++ l) (drop_more old i d h))
         ∙ get_or_at (map f (take i old)) (get_or old i d) (drop (i + 1) old) d i (length-map (take i old) f ∙ length-take-le i old (omega arith))
 
-    pub shown_turns : (P : X → Type 0) (d : X) → AllByRecursion P old → P (get_or now i d)
-    shown_turns P d a = subst P (sym (same_here d)) (All-get_or P old i d h a)
-
     pub shown_on : (d y : X) → i < length now → y ≡ f (get_or now i d) → set now i y ≡ map f (take (i + 1) old) ++ drop (i + 1) old
     shown_on d y k e = ap (set now i) e ∙ map_over_more f old now i (get_or now i d) h inv (read now i d k)
       where
         read : (xs : List X) (n : ℕ) (c : X) → n < length xs → get_or xs n c ≡ get_or xs n (get_or xs n c)
         read xs n c l = get_or_default xs n c (get_or xs n c) l
-
-  pub shown_all : length old ≤ i → now ≡ map f old
-  shown_all h = inv ∙ (ap (λ l. map f (take i old) ++ l) (drop_all i old h) ∙ (append-nil (map f (take i old)) ∙ ap (map f) (take_all i old h)))

@@ -1,21 +1,13 @@
--- The groups that items begin.
-use Rattle.std.specs.Prelude.{ℕ, ◌≤◌, cond, List, [], ◌∷◌}
+-- The groups that items form, no larger than an order may be.
+use Rattle.std.specs.Prelude.{◌≤◌, List, ℤ}
 use Rattle.ranked.specs.declared.contra.ContraItem.{ContraItem}
-use Rattle.contra.specs.Kinds.{same_user, some}
-use Rattle.allocation.specs.Parts.{Part, come, group_of, group_size}
+use Rattle.allocation.specs.Levels.{items_at}
+use Rattle.allocation.specs.Parts.{group_size, others_in}
 
 -- no group is larger than an order may be
 abbrev pub GroupsFit : List ContraItem → Type 0
 GroupsFit others = (x : ContraItem) → group_size others x ≤ 100000
 
--- what an item adds to the group of this leader
-abbrev pub adds : ContraItem → ContraItem → ℕ
-adds x y = cond (same_user x y) y.counted 0
-
--- the size of the group that an item begins, if none of its user was seen before it
-abbrev pub sizes_at : List ContraItem → List ContraItem → ContraItem → List ℕ
-sizes_at others seen x = cond (some (same_user x) seen) [] (group_size others x ∷ [])
-
--- what the group that an item begins is given, if none of its user was seen before it
-abbrev pub parts_at : List ContraItem → List ContraItem → ContraItem → ℕ → List Part
-parts_at others seen x award = cond (some (same_user x) seen) [] (come (group_of others x) award)
+-- at no price is a group larger than an order may be
+abbrev pub LevelsFit : List ContraItem → Type 0
+LevelsFit items = (price : ℤ) → GroupsFit (others_in (items_at price items))

@@ -1,13 +1,11 @@
--- Which items are picked.
-use Rattle.std.specs.Prelude.{Bool, ◌==◌}
+-- Which items a test picks, and which items are alike.
+use Rattle.std.specs.Prelude.{◌≡◌, Bool}
 use Rattle.ranked.specs.declared.contra.ContraItem.{ContraItem}
-use Rattle.allocation.specs.Levels.{at_level}
-use Rattle.allocation.specs.Parts.{is_customer, is_other}
-use Rattle.settlement.specs.declared.pick.Pick.{Pick}
-use Rattle.settlement.specs.declared.pick.Pick.TheVariants.{At, Customers, Others, Of}
 
-abbrev pub picks : Pick → ContraItem → Bool
-picks (At level) x = at_level level x
-picks Customers x = is_customer x
-picks Others x = is_other x
-picks (Of user) x = user == x.user
+-- what a test answers is p
+abbrev pub Decides : (ContraItem → Bool → Type 0) → (ContraItem → Bool) → Type 0
+Decides says p = (x : ContraItem) (b : Bool) → says x b → b ≡ p x
+
+-- what it answers of two items is `same`
+abbrev pub Likens : (ContraItem → ContraItem → Bool → Type 0) → (ContraItem → ContraItem → Bool) → Type 0
+Likens says same = (x y : ContraItem) (b : Bool) → says x y b → b ≡ same x y

@@ -1,66 +1,63 @@
-// The groups at a level: all items of a user form one, and each begins with the user's first item.
-ghost use Rattle.std.specs.Prelude.{◌≡◌, ◌+◌, ◌<◌, ◌≤◌, ◌++◌, length, take};
-ghost use Rattle.allocation.specs.Parts.{group_size, group_sizes, leaders_in};
-ghost use Rattle.settlement.specs.Groups.{GroupsFit, adds, sizes_at};
+// The groups at a level: all items of a user that are no customer's form one, and each begins with
+// the user's first item.
+ghost use Rattle.std.specs.Prelude.{◌≡◌};
+ghost use Rattle.allocation.specs.Parts.{leaders_in};
 
-use crate::kind::Kind;
+use crate::pick::{Items, firsts, picked};
+use arrayvec::ArrayVec;
 use ranked::contra::ContraItem;
 
-// What an item adds to the group of this leader.
-fn adds(leader: &ContraItem, item: &ContraItem) -> u32
-    ensures { result ≡ adds leader.now item.now }
-{
-    if leader.user == item.user {
-        item.counted
-    } else {
-        0
-    }
+#[derive(Drop)]
+pub(crate) struct Groups {
+    pub(crate) others: Items,
+    pub(crate) leaders: Items,
+    ghost led: { leaders.items ≡ leaders_in others.items },
 }
 
-// The counted contracts of a leader's group.
-fn group_size(others: &[ContraItem], leader: &ContraItem) -> u32
-    requires { group_size others.now leader.now ≤ 100000 }
-    ensures { result ≡ group_size others.now leader.now }
-{
-    let mut sum = 0;
-    for item in others {
-        sum += adds(leader, item);
-    }
-    sum
-}
+impl Groups {
+    ghost use Rattle.std.specs.Prelude.{◌^◌, ◌<◌, sum_by};
+    ghost use Rattle.allocation.specs.Parts.{counts, group_of, group_sizes, others_in};
+    ghost use Rattle.settlement.specs.Groups.{GroupsFit};
 
-// Puts the size of an item's group behind the first `count`, if the item, which has these before
-// it, begins a group, and answers how many there are then.
-fn put_size(
-    others: &[ContraItem],
-    earlier: &[ContraItem],
-    item: &ContraItem,
-    sizes: &mut [u32],
-    count: usize,
-) -> usize
-    requires fits { GroupsFit others.now }
-    requires room { count < length sizes.old }
-    ensures value { result ≡ count + length (sizes_at others.now earlier.now item.now) }
-    ensures after { take result sizes.new ≡ take count sizes.old ++ sizes_at others.now earlier.now item.now }
-{
-    if Kind::User.was_seen(item, earlier) {
-        return count;
+    // The groups among the items at a level.
+    pub(crate) fn among(here: &Items) -> Groups
+        ensures { result.others.items ≡ others_in here.now.items }
+    {
+        let others = picked(here, |item| !item.customer);
+        let leaders = firsts(&others, |item, other| item.user == other.user);
+        Groups { others, leaders }
     }
-    sizes[count] = group_size(others, item);
-    count + 1
-}
 
-// Writes the size of each group, and answers how many groups there are.
-pub(crate) fn group_sizes(others: &[ContraItem], sizes: &mut [u32]) -> usize
-    requires fits { GroupsFit others.now }
-    requires room { length others.now ≤ length sizes.old }
-    ensures count { result ≡ length (leaders_in others.now) }
-    ensures few { result ≤ length others.now }
-    ensures after { take result sizes.new ≡ group_sizes others.now }
-{
-    let mut count = 0;
-    for i in 0..others.len() {
-        count = put_size(others, &others[0..i], &others[i], sizes, count);
+    // The items of a leader's group.
+    pub(crate) fn led_by(&self, leader: &ContraItem) -> Items
+        ensures { result.items ≡ group_of self.now.others.items leader.now }
+    {
+        let user = leader.user;
+        picked(&self.others, |item| user == item.user)
     }
-    count
+
+    // The counted contracts of a leader's group.
+    fn size(&self, leader: &ContraItem) -> u32
+        requires { sum_by counts (group_of self.now.others.items leader.now) < 2 ^ 32 }
+        ensures { result ≡ sum_by counts (group_of self.now.others.items leader.now) }
+    {
+        let user = leader.user;
+        self.others
+            .iter()
+            .filter(|item| user == item.user)
+            .map(|item| item.counted)
+            .sum()
+    }
+
+    // The size of each group, in the order of their leaders.
+    pub(crate) fn sizes(&self) -> ArrayVec<u32, 128>
+        requires { GroupsFit self.now.others.items }
+        ensures { result.items ≡ group_sizes self.now.others.items }
+    {
+        let mut sizes = ArrayVec::new();
+        for leader in self.leaders.iter() {
+            sizes.push(self.size(leader));
+        }
+        sizes
+    }
 }

@@ -2,15 +2,9 @@
 #![tactic(auto)]
 
 pub mod counts;
-mod deal;
-mod fill;
+mod filling;
 mod group;
-mod kind;
-mod level;
-mod levels;
 mod pick;
-mod progress;
 pub mod settle;
-mod share_out;
+mod settlement;
 mod show;
-mod write;

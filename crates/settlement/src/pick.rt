@@ -1,54 +1,59 @@
-// Picks items out of a list: those of a level, customers' or others', those of a user.
-ghost use Rattle.std.specs.Prelude.{◌≡◌, ◌+◌, ◌<◌, ◌≤◌, [], ◌∷◌, ◌++◌, length, take, filter};
-ghost use Rattle.settlement.specs.Picks.{picks};
+// Picks items out of a list of up to 128.
+ghost use Rattle.std.specs.Prelude.{◌≡◌, ◌≤◌, Bool, [], length, filter};
+ghost use Rattle.std.specs.List.{list_any};
+ghost use Rattle.std.specs.Fn.{FnReturnsAt, FnReturnsAtPair};
+ghost use Rattle.ranked.specs.declared.contra.ContraItem.{ContraItem as Item};
+ghost use Rattle.contra.specs.Kinds.{firsts};
+ghost use Rattle.settlement.specs.Picks.{Decides, Likens};
 
+use arrayvec::ArrayVec;
 use ranked::contra::ContraItem;
 
-// Which items to pick.
-#[derive(Clone, Copy)]
-pub enum Pick {
-    At { level: i32 },
-    Customers,
-    Others,
-    Of { user: u32 },
-}
+// So many contra items there may be. They lie in the value itself: a settlement has no heap.
+pub(crate) type Items = ArrayVec<ContraItem, 128>;
 
-impl Pick {
-    fn picks(&self, item: &ContraItem) -> bool
-        ensures { result ≡ picks self.now item.now }
-    {
-        match self {
-            Pick::At { level } => *level == item.level,
-            Pick::Customers => item.customer,
-            Pick::Others => !item.customer,
-            Pick::Of { user } => *user == item.user,
+// The items that pass a test, in their order. They may stand in a caller's slice, so that they are
+// few is asked.
+pub(crate) fn picked<P: Fn(&ContraItem) -> bool>(items: &[ContraItem], passes: P) -> Items
+    requires few { length items.now ≤ 128 }
+    requires always { P.IsAlwaysCallable passes }
+    ensures { (p : Item → Bool) → Decides (FnReturnsAt P.Fn passes) p → result.items ≡ filter p items.now }
+{
+    let mut found = ArrayVec::new();
+    for item in items {
+        if passes(item) {
+            found.push(*item);
         }
     }
+    found
 }
 
-// Puts an item behind the first `count`, if it is picked, and answers how many there are then.
-fn keep(pick: &Pick, item: &ContraItem, into: &mut [ContraItem], count: usize) -> usize
-    requires { count < length into.old }
-    ensures value { result ≡ count + length (filter (picks pick.now) (item.now ∷ [])) }
-    ensures after { take result into.new ≡ take count into.old ++ filter (picks pick.now) (item.now ∷ []) }
+// Whether an item is like one of the earlier ones.
+fn is_seen<A: Fn(&ContraItem, &ContraItem) -> bool>(
+    item: &ContraItem,
+    earlier: &[ContraItem],
+    alike: &A,
+) -> bool
+    requires { (state : A) (x y : _) → A.pre state x y }
+    ensures { (same : Item → Item → Bool) → Likens (FnReturnsAtPair A.Fn alike.now) same → result ≡ list_any (same item.now) earlier.now }
 {
-    if pick.picks(item) {
-        into[count] = *item;
-        count + 1
-    } else {
-        count
-    }
+    earlier.iter().any(|other| alike(item, other))
 }
 
-// Copies the items that are picked into the first places of `into`, and answers how many they are.
-pub(crate) fn pick_into(items: &[ContraItem], pick: Pick, into: &mut [ContraItem]) -> usize
-    requires { length items.now ≤ length into.old }
-    ensures few { result ≤ length items.now }
-    ensures after { take result into.new ≡ filter (picks pick) items.now }
+// The first item of each kind, in their order. Items are of one kind where they are alike.
+pub(crate) fn firsts<A: Fn(&ContraItem, &ContraItem) -> bool>(
+    items: &[ContraItem],
+    alike: A,
+) -> Items
+    requires few { length items.now ≤ 128 }
+    requires always { (state : A) (x y : _) → A.pre state x y }
+    ensures { (same : Item → Item → Bool) → Likens (FnReturnsAtPair A.Fn alike) same → result.items ≡ firsts same [] items.now }
 {
-    let mut count = 0;
-    for item in items {
-        count = keep(&pick, item, into, count);
+    let mut found = ArrayVec::new();
+    for (i, item) in items.iter().enumerate() {
+        if !is_seen(item, &items[..i], &alike) {
+            found.push(*item);
+        }
     }
-    count
+    found
 }

@@ -1,19 +1,20 @@
 // Settles one auction: which contracts go to whom at which price.
-ghost use Rattle.std.specs.Prelude.{◌≡◌, ◌+◌, ◌≤◌, length, take, is_ok, IfOk, if◌then◌else◌};
+ghost use Rattle.std.specs.Prelude.{◌≡◌, ◌≤◌, length, take, is_ok, IfOk, if◌then◌else◌, nat_le};
 ghost use Rattle.std.specs.List.{AllByRecursion};
 ghost use Rattle.terms.specs.Refusals.{said};
 ghost use Rattle.terms.specs.Tables.{entries};
 ghost use Rattle.contra.specs.Counting.{contra_of};
-ghost use Rattle.contra.specs.Turns.{ItemTurns, PriceTurns};
+ghost use Rattle.contra.specs.Turns.{ItemTurns};
 ghost use Rattle.allocation.specs.Deals.{deal_of};
 ghost use Rattle.allocation.specs.Fillings.{fills_of};
 ghost use Rattle.allocation.specs.Outcomes.{Outcome, auction_fills, shown_fills, shown_items};
+ghost use Rattle.settlement.specs.Groups.{LevelsFit};
 ghost use Rattle.settlement.specs.Settles.{over, settle_said};
 ghost use Rattle.settlement.specs.Shows.{FillTurns};
-ghost use Rattle.settlement.specs.Steps.{LevelsFit};
 
 use crate::counts::Counts;
-use crate::levels::fill_levels;
+use crate::filling::MOST_FILLS;
+use crate::settlement::Settlement;
 use crate::show::show_all;
 use auction::record::Auction;
 use contra::items::contra_items;
@@ -25,6 +26,13 @@ use terms::order::{Order, Response};
 use terms::refusal::Refusal;
 use terms::table::Table;
 
+// Whether a list has a place for every fill that a settlement may write.
+fn has_room(fills: &[Fill]) -> bool
+    ensures { result ≡ nat_le 257 (length fills.now) }
+{
+    fills.len() >= MOST_FILLS
+}
+
 // Fills an auction from its items, shows both lists in true prices, and answers how many fills
 // it wrote.
 fn fill_and_show<S: ShareRule>(
@@ -35,21 +43,26 @@ fn fill_and_show<S: ShareRule>(
 ) -> usize
     requires few { length items.old ≤ 128 }
     requires fits { LevelsFit items.old }
-    requires room { length (fills_of (S.ShareRule.awards rule.now) (deal_of auction.now.row) items.old) ≤ length fills.old }
+    requires most { length (fills_of (S.ShareRule.awards rule.now) (deal_of auction.now.row) items.old) ≤ 257 }
+    requires room { 257 ≤ length fills.old }
     requires turns { AllByRecursion (ItemTurns auction.now.row.side) items.old }
     requires filled { AllByRecursion (FillTurns auction.now.row.side) (fills_of (S.ShareRule.awards rule.now) (deal_of auction.now.row) items.old) }
     ensures count { result ≡ length (fills_of (S.ShareRule.awards rule.now) (deal_of auction.now.row) items.old) }
     ensures items { items.new ≡ shown_items auction.now.row items.old }
     ensures fills { fills.new ≡ over (shown_fills auction.now.row (fills_of (S.ShareRule.awards rule.now) (deal_of auction.now.row) items.old)) fills.old }
 {
-    let count = fill_levels(auction, rule, items, fills);
-    show_all(auction.side(), items);
-    show_all(auction.side(), &mut fills[0..count]);
-    count
+    let side = auction.side();
+    let settlement = Settlement {
+        auction,
+        rule,
+        items: &*items,
+    };
+    let mut written = settlement.fills();
+    show_all(side, items);
+    show_all(side, written.as_mut_slice());
+    fills[..written.len()].copy_from_slice(&written);
+    written.len()
 }
-
-// So many fills a settlement may write: two for each of 128 items, and one at the stop.
-const MOST_FILLS: usize = 257;
 
 // Settles an auction against the orders and responses that rest, by a share rule. Writes the contra
 // items and the fills from the front of their lists, in true prices, and answers how many of each
@@ -67,10 +80,10 @@ pub fn settle<S: ShareRule>(
     ensures fills { fills.new ≡ (if is_ok result then over (shown_fills auction.now.row (auction_fills (S.ShareRule.awards rule.now) auction.now.row (entries orders.now) (entries responses.now))) fills.old else fills.old) }
     ensures law { IfOk result (λ n. Outcome (S.ShareRule.awards rule.now) auction.now.row (entries orders.now) (entries responses.now) (take n.items contra.new) (take n.fills fills.new)) }
 {
-    if fills.len() < MOST_FILLS {
+    if !has_room(fills) {
         return Err(Refusal::Full);
     }
     let items = contra_items(auction, orders, responses, contra)?;
-    let fills = fill_and_show(auction, rule, &mut contra[0..items], fills);
+    let fills = fill_and_show(auction, rule, &mut contra[..items], fills);
     Ok(Counts { fills, items })
 }

@@ -1,11 +1,11 @@
 -- What may be shared, and how each other request is refused.
-use Rattle.std.specs.Prelude.{ℕ, Bool, true, cond, ◌&&◌, List, [], ◌∷◌, length, nat_le}
+use Rattle.std.specs.Prelude.{ℕ, Bool, cond, ◌&&◌, List, length, nat_le}
+use Rattle.std.specs.List.{list_all}
 use Rattle.terms.specs.Refusals.{Said, answered, refused, row, nothing}
 
 -- each size is 0 to 100,000
 abbrev pub sizes_fit : List ℕ → Bool
-sizes_fit [] = true
-sizes_fit (size ∷ sizes) = nat_le size 100000 && sizes_fit sizes
+sizes_fit sizes = list_all (λ size. nat_le size 100000) sizes
 
 -- at most 128 sizes, all in range, and a quantity of 0 to 100,000
 abbrev pub share_fits : List ℕ → ℕ → Bool

@@ -11,15 +11,17 @@ use terms::refusal::Refusal;
 #[derive(Clone, Copy)]
 pub struct FirstCome;
 
-// Gives each size the lesser of it and what is left.
+// Gives each size the lesser of it and what is left. Here the whole award uses up what is left, and
+// pro rata only the one more, so each has a loop of its own. The awards are written by place, for of
+// a list whose `iter_mut` is zipped nothing is known after the loop.
 fn fill(sizes: &[u32], q: u32, given: &mut [u32])
     requires { length sizes.now ≤ length given.old }
     ensures { given.new ≡ first_come sizes.now q ++ drop (length sizes.now) given.old }
 {
     let mut left = q;
-    for i in 0..sizes.len() {
-        let award = sizes[i].min(left);
-        given[i] = award;
+    for (place, &size) in sizes.iter().enumerate() {
+        let award = size.min(left);
+        given[place] = award;
         left -= award;
     }
 }

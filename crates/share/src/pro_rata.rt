@@ -1,7 +1,6 @@
 // Pro rata: gives each size its part of the quantity, rounded down, and then one more each in rank order.
-ghost use Rattle.std.specs.Prelude.{◌≡◌, ◌+◌, ◌-◌, ◌^◌, ◌<◌, ◌≤◌, min, ◌++◌, length, drop};
-ghost use Rattle.share.specs.Awards.{total};
-ghost use Rattle.share.specs.Proration.{part, parts, one_more, dealt, pro_rata};
+ghost use Rattle.std.specs.Prelude.{◌≡◌, ◌+◌, ◌-◌, ◌^◌, ◌<◌, ◌≤◌, min, ◌++◌, length, drop, sum, sum_by};
+ghost use Rattle.share.specs.Proration.{part, one_more, dealt, pro_rata};
 ghost use Rattle.share.specs.Prorating.{pro_rata_each, pro_rata_within, pro_rata_spent};
 
 use crate::range::check_request;
@@ -12,32 +11,12 @@ use terms::refusal::Refusal;
 #[derive(Clone, Copy)]
 pub struct ProRata;
 
-fn sum_of(sizes: &[u32]) -> u32
-    requires { total sizes.now < 2 ^ 32 }
-    ensures { result ≡ total sizes.now }
-{
-    let mut sum = 0;
-    for size in sizes {
-        sum += *size;
-    }
-    sum
-}
-
-// size × q / sum, rounded down. The product of two numbers of 32 bits fits 64.
-fn rounded_down(size: u32, q: u32, sum: u32) -> u64
-    requires { 0 < sum }
-    ensures { result ≡ part sum q size }
-{
-    u64::from(size) * u64::from(q) / u64::from(sum)
-}
-
-// A size's part of a quantity below the sum. A size above 0 has room for one more.
-fn part_of(size: u32, q: u32, sum: u32) -> u32
-    requires { q < sum }
-    ensures value { result ≡ part sum q size }
-    ensures room { result + min 1 size ≤ size }
-{
-    rounded_down(size, q, sum) as u32
+// A quantity that is short of the sum of the sizes.
+#[derive(Clone, Copy)]
+struct Short {
+    q: u32,
+    sum: u32,
+    ghost below: { q < sum },
 }
 
 // One of what is left over, and none for a size of 0.
@@ -49,46 +28,59 @@ fn one_more(size: u32, left: u32) -> u32
     if size == 0 { 0 } else { left.min(1) }
 }
 
-// What the parts leave over.
-fn left_over(sizes: &[u32], q: u32, sum: u32) -> u32
-    requires below { q < sum }
-    requires within { total (parts sum q sizes.now) ≤ q }
-    ensures { result ≡ q - total (parts sum q sizes.now) }
-{
-    let mut left = q;
-    for size in sizes {
-        left -= part_of(*size, q, sum);
+impl Short {
+    // size × q / sum, rounded down. The product of two numbers of 32 bits fits 64.
+    fn rounded_down(self, size: u32) -> u64
+        ensures { result ≡ part self.sum self.q size }
+    {
+        u64::from(size) * u64::from(self.q) / u64::from(self.sum)
     }
-    left
-}
 
-// Gives each size its part and, while some is left over, one more.
-fn deal(sizes: &[u32], q: u32, sum: u32, over: u32, given: &mut [u32])
-    requires below { q < sum }
-    requires room { length sizes.now ≤ length given.old }
-    ensures { given.new ≡ dealt sum q over sizes.now ++ drop (length sizes.now) given.old }
-{
-    let mut left = over;
-    for i in 0..sizes.len() {
-        let more = one_more(sizes[i], left);
-        given[i] = part_of(sizes[i], q, sum) + more;
-        left -= more;
+    // A size's part. A size above 0 has room for one more.
+    fn part_of(self, size: u32) -> u32
+        ensures value { result ≡ part self.sum self.q size }
+        ensures room { result + min 1 size ≤ size }
+    {
+        self.rounded_down(size) as u32
+    }
+
+    // What the parts leave over.
+    fn left_over(self, sizes: &[u32]) -> u32
+        requires { sum_by (part self.sum self.q) sizes.now ≤ self.q }
+        ensures { result ≡ self.q - sum_by (part self.sum self.q) sizes.now }
+    {
+        let given: u32 = sizes.iter().map(|size| self.part_of(*size)).sum();
+        self.q - given
+    }
+
+    // Gives each size its part and, while some is left over, one more. The awards are written by
+    // place, for of a list whose `iter_mut` is zipped nothing is known after the loop.
+    fn deal(self, sizes: &[u32], over: u32, given: &mut [u32])
+        requires { length sizes.now ≤ length given.old }
+        ensures { given.new ≡ dealt self.sum self.q over sizes.now ++ drop (length sizes.now) given.old }
+    {
+        let mut left = over;
+        for (place, &size) in sizes.iter().enumerate() {
+            let more = one_more(size, left);
+            given[place] = self.part_of(size) + more;
+            left -= more;
+        }
     }
 }
 
 // Gives each its whole size if the quantity covers the sum, and else its part and what is left over.
 fn prorate(sizes: &[u32], q: u32, given: &mut [u32])
-    requires few { total sizes.now < 2 ^ 32 }
+    requires few { sum sizes.now < 2 ^ 32 }
     requires room { length sizes.now ≤ length given.old }
     ensures { given.new ≡ pro_rata sizes.now q ++ drop (length sizes.now) given.old }
 {
-    let sum = sum_of(sizes);
+    let sum = sizes.iter().sum();
     if sum <= q {
-        given[0..sizes.len()].copy_from_slice(sizes);
+        given[..sizes.len()].copy_from_slice(sizes);
         return;
     }
-    let over = left_over(sizes, q, sum);
-    deal(sizes, q, sum, over, given);
+    let short = Short { q, sum };
+    short.deal(sizes, short.left_over(sizes), given);
 }
 
 impl ShareRule for ProRata {

@@ -14,12 +14,7 @@ const LARGEST: u32 = 100_000;
 fn sizes_fit(sizes: &[u32]) -> bool
     ensures { result ≡ sizes_fit sizes.now }
 {
-    for size in sizes {
-        if *size > LARGEST {
-            return false;
-        }
-    }
-    true
+    sizes.iter().all(|size| *size <= LARGEST)
 }
 
 // Whether the request is in range, and then whether the award list has a place for each size.

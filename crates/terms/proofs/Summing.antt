@@ -9,7 +9,7 @@ use Rattle.terms.specs.declared.leg.Leg.{Leg}
 use Rattle.terms.specs.declared.side.Side.TheVariants.{Buy}
 use Rattle.terms.specs.declared.synthetic.Synthetic.{Synthetic}
 use Rattle.terms.specs.declared.top.Top.{Top}
-use Rattle.terms.specs.Legs.{apart, leg_fits, names}
+use Rattle.terms.specs.Legs.{apart, leg_fits, names, well_formed}
 use Rattle.terms.specs.Ranges.{complex_price}
 use Rattle.terms.specs.Synthetics.{Within, nought, plus, shown, some_customer, summed, total, valued}
 
@@ -20,27 +20,31 @@ product_le r p h k = mul-le-mul h k
 pub same_synthetic : (p q : ℤ) (a b : Bool) → p ≡ q → a ≡ b → ◌≡◌ {A = Synthetic} (record { price = p; customer = a }) (record { price = q; customer = b })
 same_synthetic p q a b e f = cc
 
-module _ (ls : List Leg) (ts : List (Option Top)) (i : ℕ) (s : Synthetic) (inv : summed s (drop i ls) (drop i ts) ≡ summed nought ls ts) where
-  pub short_tops : i < length ls → length ts ≤ i → None ≡ summed nought ls ts
-  short_tops h k =
-      let d : Leg = record { component = 0; side = Buy; ratio = 0 } in
-      let e : summed s (drop i ls) (drop i ts) ≡ summed s (get_or ls i d ∷ drop (i + 1) ls) (drop i ts) = ap (λ x. summed s x (drop i ts)) (drop_more ls i d h) in
-      let f : summed s (get_or ls i d ∷ drop (i + 1) ls) (drop i ts) ≡ None = ap (summed s (get_or ls i d ∷ drop (i + 1) ls)) (drop_all i ts k) in
-      sym f ∙ (sym e ∙ inv)
+-- what the code reads past the end of a list
+abbrev pub no_leg : Leg
+no_leg = record { component = 0; side = Buy; ratio = 0 }
 
-  at_top : (d : Leg) (o p : Option Top) → i < length ls → i < length ts → o ≡ get_or ts i o → o ≡ p → summed s (get_or ls i d ∷ drop (i + 1) ls) (p ∷ drop (i + 1) ts) ≡ summed nought ls ts
-  at_top d o p h k e f =
-      sym (ap (λ x. summed s x (drop i ts)) (drop_more ls i d h)
-      ∙ ap (summed s (get_or ls i d ∷ drop (i + 1) ls)) (drop_more ts i o k ∙ ap (λ x. x ∷ drop (i + 1) ts) (sym e ∙ f))) ∙ inv
+none_left : (s : Synthetic) (l : Leg) (ls : List Leg) (ts : List (Option Top)) → length ts ≡ 0 → None ≡ summed s (l ∷ ls) ts
+none_left s l ls [] e = refl
+none_left s l ls (t ∷ ts) e = absurd (omega arith)
 
-  pub absent_top : (o : Option Top) → i < length ls → i < length ts → o ≡ get_or ts i o → o ≡ None → None ≡ summed nought ls ts
-  absent_top o h k e f = at_top (record { component = 0; side = Buy; ratio = 0 }) o None h k e f
+-- i legs are added, and of the tops these are left
+module _ (ls : List Leg) (left : List (Option Top)) (i : ℕ) (s : Synthetic) (whole : Option Synthetic) (inv : summed s (drop i ls) left ≡ whole) where
+  at_leg : i < length ls → summed s (get_or ls i no_leg ∷ drop (i + 1) ls) left ≡ whole
+  at_leg h = sym (ap (λ x. summed s x left) (drop_more ls i no_leg h)) ∙ inv
 
-  pub on_top : (d : Leg) (o : Option Top) (t : Top) (r : Synthetic) → i < length ls → i < length ts → o ≡ get_or ts i o → o ≡ Some t → r ≡ plus s (get_or ls i d) t → summed r (drop (i + 1) ls) (drop (i + 1) ts) ≡ summed nought ls ts
-  on_top d o t r h k e f g = ap (λ x. summed x (drop (i + 1) ls) (drop (i + 1) ts)) g ∙ at_top d o (Some t) h k e f
+  pub short_tops : i < length ls → length left ≡ 0 → None ≡ whole
+  short_tops h k = none_left s (get_or ls i no_leg) (drop (i + 1) ls) left k ∙ at_leg h
 
-  pub sum_end : length ls ≤ i → Some s ≡ summed nought ls ts
-  sum_end h = sym (ap (λ x. summed s x (drop i ts)) (drop_all i ls h)) ∙ inv
+  pub absent_top : (ts : List (Option Top)) → i < length ls → left ≡ None ∷ ts → None ≡ whole
+  absent_top ts h e = sym (ap (summed s (get_or ls i no_leg ∷ drop (i + 1) ls)) e) ∙ at_leg h
+
+  pub on_top : (t : Top) (ts : List (Option Top)) (r : Synthetic) → i < length ls → left ≡ Some t ∷ ts → r ≡ plus s (get_or ls i no_leg) t → summed r (drop (i + 1) ls) ts ≡ whole
+  on_top t ts r h e g =
+      ap (λ x. summed x (drop (i + 1) ls) ts) g ∙ (sym (ap (summed s (get_or ls i no_leg ∷ drop (i + 1) ls)) e) ∙ at_leg h)
+
+  pub sum_end : length ls ≤ i → Some s ≡ whole
+  sum_end h = sym (ap (λ x. summed s x left) (drop_all i ls h)) ∙ inv
 
 module _ (ls : List Leg) (i : ℕ) (d : Leg) (h : i < length ls) (ok : apart (drop i ls) ≡ true) where
   pub fit_here : leg_fits (get_or ls i d) ≡ true
@@ -48,6 +52,12 @@ module _ (ls : List Leg) (i : ℕ) (d : Leg) (h : i < length ls) (ok : apart (dr
 
   pub fit_later : apart (drop (i + 1) ls) ≡ true
   fit_later = let e : apart (drop i ls) ≡ (leg_fits (get_or ls i d) && (not (names (get_or ls i d).component (drop (i + 1) ls)) && apart (drop (i + 1) ls))) = at_drop_more apart ls i d h in grind (arith, nat_tests)
+
+pub fit_all : (ls : List Leg) → well_formed ls ≡ true → apart ls ≡ true
+fit_all ls e = grind (arith, nat_tests)
+
+pub within_three : (n : ℕ) (z : ℤ) → n ≤ 3 → Within n z → Within 3 z
+within_three n z h w = (grind (arith, ints), grind (arith, ints))
 
 pub within_range : (n : ℕ) (z : ℤ) → n ≤ 4 → Within n z → complex_price z ≡ true
 within_range n z h w = grind (arith, ints)

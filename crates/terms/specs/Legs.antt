@@ -1,5 +1,6 @@
 -- What makes a list of legs a strategy, and which tops price a leg.
-use Rattle.std.specs.Prelude.{ℕ, Bool, true, false, not, ◌&&◌, ◌||◌, List, [], ◌∷◌, length, ◌==◌}
+use Rattle.std.specs.Prelude.{ℕ, Bool, true, not, ◌&&◌, List, [], ◌∷◌, length, ◌==◌}
+use Rattle.std.specs.List.{list_any}
 use Rattle.terms.specs.declared.leg.Leg.{Leg}
 use Rattle.terms.specs.declared.side.Side.{Side}
 use Rattle.terms.specs.declared.side.Side.TheVariants.{Buy, Sell}
@@ -11,8 +12,7 @@ leg_fits l = range.component l.component && range.ratio l.ratio
 
 -- one of the legs is on the component
 abbrev pub names : ℕ → List Leg → Bool
-names c [] = false
-names c (l ∷ ls) = l.component == c || names c ls
+names c ls = list_any (λ (l : Leg). l.component == c) ls
 
 -- each leg is in range and on a component that no later leg is on
 abbrev pub apart : List Leg → Bool

@@ -16,7 +16,7 @@ impl Leg {
     pub fn fits(&self) -> bool
         ensures { result ≡ leg_fits self.now }
     {
-        1 <= self.component && self.component <= 16 && 1 <= self.ratio && self.ratio <= 8
+        (1..=16).contains(&self.component) && (1..=8).contains(&self.ratio)
     }
 
     // The side of the component's market that prices this leg in the strategy's best bid

@@ -4,7 +4,7 @@ ghost use Rattle.terms.specs.Ranges.{simple_price};
 
 mod made;
 
-#[derive(Clone, Copy, PartialEq, Eq, Debug)]
+#[derive(Clone, Copy, PartialEq, Eq, PartialOrd, Ord, Debug)]
 pub struct Price {
     cents: u32,
     ghost range: { simple_price cents ≡ true },

@@ -6,22 +6,18 @@ ghost use Rattle.terms.specs.Refusals.{clause_number, number_of};
 #[derive(Clone, Copy, PartialEq, Eq, Debug)]
 pub enum Clause {
     // at or above the SBB, and above it if marked
-    Bid,
+    Bid = 1,
     // above every resting complex buy, or at a non-customer's if the Agency Order is a customer's
-    Orders,
+    Orders = 2,
     // at or below the SBO, and below it if marked
-    Offer,
+    Offer = 3,
 }
 
 impl Clause {
     pub fn number(self) -> u32
         ensures { result ≡ clause_number self }
     {
-        match self {
-            Clause::Bid => 1,
-            Clause::Orders => 2,
-            Clause::Offer => 3,
-        }
+        self as u32
     }
 }
 
@@ -55,6 +51,7 @@ pub enum Refusal<F> {
 }
 
 impl<F> Refusal<F> {
+    // A match, for cases that hold values have no number of their own.
     pub fn number(&self) -> u32
         ensures { result ≡ number_of self.now }
     {

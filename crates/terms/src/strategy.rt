@@ -6,6 +6,7 @@ use crate::leg::Leg;
 
 mod made;
 
+// The legs lie in the value itself, the first `count` of four places, for a strategy can be copied.
 #[derive(Clone, Copy)]
 pub struct Strategy {
     legs: [Leg; 4],

@@ -1,6 +1,6 @@
 // The best price of one side of one component, marked where a customer's order is there.
 ghost use Rattle.std.specs.Prelude.{◌≡◌};
-ghost use Rattle.terms.specs.Tops.{top_at, top_of};
+ghost use Rattle.terms.specs.Tops.{top_of};
 
 use crate::price::Price;
 
@@ -15,15 +15,7 @@ impl Top {
     pub fn new(cents: u32, customer: bool) -> Option<Top>
         ensures { result ≡ top_of cents customer }
     {
-        Top::at(Price::new(cents), customer)
-    }
-
-    fn at(price: Option<Price>, customer: bool) -> Option<Top>
-        ensures { result ≡ top_at price customer }
-    {
-        match price {
-            Some(price) => Some(Top { price, customer }),
-            None => None,
-        }
+        let price = Price::new(cents)?;
+        Some(Top { price, customer })
     }
 }

@@ -14,22 +14,19 @@ use terms::auction::AuctionRow;
 fn cap_fits(row: &AuctionRow) -> bool
     ensures { result ≡ cap_fits (cap_at row.now) (stop_of row.now) }
 {
-    match row.cap {
-        Some(cap) => as_buyer(row.side, cap) <= as_buyer(row.side, row.stop),
-        None => true,
-    }
+    row.cap.is_none_or(|cap| as_buyer(row.side, cap) <= as_buyer(row.side, row.stop))
 }
 
 fn size_fits(size: u32) -> bool
     ensures { result ≡ between 1 100000 size }
 {
-    1 <= size && size <= 100_000
+    (1..=100_000).contains(&size)
 }
 
 fn stop_fits(row: &AuctionRow) -> bool
     ensures { result ≡ complex_price row.now.stop }
 {
-    -32_000_000 <= row.stop && row.stop <= 32_000_000
+    (-32_000_000..=32_000_000).contains(&row.stop)
 }
 
 // Whether an auction may have this row.

@@ -25,10 +25,7 @@ impl Auction {
     fn cap(&self) -> Option<i32>
         ensures { result ≡ cap_at self.now.row }
     {
-        match self.row.cap {
-            Some(cap) => Some(as_buyer(self.row.side, cap) as i32),
-            None => None,
-        }
+        self.row.cap.map(|cap| as_buyer(self.row.side, cap) as i32)
     }
 
     // A price of contra interest as a buyer sees it, if that is at or below the stop.
@@ -49,10 +46,7 @@ impl Auction {
     pub fn level(&self, price: i32) -> i32
         ensures { result ≡ level_of self.now.row price }
     {
-        match self.cap() {
-            Some(cap) => price.max(cap),
-            None => price,
-        }
+        self.cap().map_or(price, |cap| price.max(cap))
     }
 
     // Whether the Initiating Order matches others at this level, as a buyer sees it.

@@ -1,4 +1,4 @@
-ghost use Rattle.std.specs.Prelude.{◌≡◌, ℕ};
+ghost use Rattle.std.specs.Prelude.{◌≡◌};
 ghost use Rattle.terms.specs.Refusals.{said};
 ghost use Rattle.market.specs.Bands.{Banded, band_after, band_fault, band_top, banded, lowest, too_far, width_of, width_said, would_move};
 ghost use Rattle.market.specs.Meaning.{led};
@@ -16,10 +16,17 @@ impl Width {
     pub fn new(cents: u32) -> Result<Width, Refusal<Fault>>
         ensures { said result ≡ width_said cents }
     {
-        match Price::new(cents) {
-            Some(cents) => Ok(Width { cents }),
-            None => Err(Refusal::Range),
-        }
+        let cents = Price::new(cents).ok_or(Refusal::Range)?;
+        Ok(Width { cents })
+    }
+
+    // Whether both tops are there and lie further apart than this.
+    fn is_passed(self, before: Option<Top>, after: Option<Top>) -> bool
+        ensures { result ≡ too_far (width_of self) before after }
+    {
+        before.zip(after).is_some_and(|(before, after)| {
+            before.price.cents().abs_diff(after.price.cents()) > self.cents.cents()
+        })
     }
 }
 
@@ -32,60 +39,39 @@ impl<M> Band<M> {
     }
 }
 
-// Whether both tops are there and lie further apart than the width.
-fn too_far(width: &Width, before: Option<Top>, after: Option<Top>) -> bool
-    ensures { result ≡ too_far (width_of width.now) before after }
-{
-    let Some(before) = before else {
-        return false;
-    };
-    let Some(after) = after else {
-        return false;
-    };
-    before.price.cents().abs_diff(after.price.cents()) > width.cents.cents()
-}
-
-// Whether the notice would move this top too far.
-fn moves_far<M: Market>(
-    market: &mut M,
-    notice: &M::Notice,
-    width: &Width,
-    component: u32,
-    side: Side,
-) -> bool
-    ensures value { result ≡ too_far (width_of width.now) (M.Market.top (M.Market.model market.old) component side) (M.Market.top (led M.Market.fault M.Market.after (M.Market.model market.old) notice.now) component side) }
-    ensures same { market.new ≡ market.old }
-{
-    let before = market.tell(component, side);
-    let after = market.foresee(notice, component, side);
-    too_far(width, before, after)
-}
-
-// Whether the notice would move a top of this component too far.
-fn component_moves<M: Market>(
-    market: &mut M,
-    notice: &M::Notice,
-    width: &Width,
-    component: u32,
-) -> bool
-    ensures value { result ≡ would_move M.Market.top M.Market.fault M.Market.after (width_of width.now) (M.Market.model market.old) notice.now component }
-    ensures same { market.new ≡ market.old }
-{
-    moves_far(market, notice, width, component, Side::Buy)
-        || moves_far(market, notice, width, component, Side::Sell)
-}
-
-// The lowest component of which the notice would move a top too far.
-fn lowest_moved<M: Market>(market: &mut M, notice: &M::Notice, width: &Width) -> Option<u32>
-    ensures value { result ≡ lowest (would_move M.Market.top M.Market.fault M.Market.after (width_of width.now) (M.Market.model market.old) notice.now) 1 16 }
-    ensures same { market.new ≡ market.old }
-{
-    for component in 1..17 {
-        if component_moves(market, notice, width, component) {
-            return Some(component);
-        }
+impl<M: Market> Band<M> {
+    // Whether the notice would move this top too far.
+    fn moves_far(&mut self, notice: &M::Notice, component: u32, side: Side) -> bool
+        ensures value { result ≡ too_far (width_of self.old.width) (M.Market.top (M.Market.model self.old.below) component side) (M.Market.top (led M.Market.fault M.Market.after (M.Market.model self.old.below) notice.now) component side) }
+        ensures same { self.new ≡ self.old }
+    {
+        let before = self.below.tell(component, side);
+        let after = self.below.foresee(notice, component, side);
+        self.width.is_passed(before, after)
     }
-    None
+
+    // Whether the notice would move a top of this component too far.
+    fn moves(&mut self, notice: &M::Notice, component: u32) -> bool
+        ensures value { result ≡ would_move M.Market.top M.Market.fault M.Market.after (width_of self.old.width) (M.Market.model self.old.below) notice.now component }
+        ensures same { self.new ≡ self.old }
+    {
+        self.moves_far(notice, component, Side::Buy)
+            || self.moves_far(notice, component, Side::Sell)
+    }
+
+    // The lowest component of which the notice would move a top too far.
+    fn lowest_moved(&mut self, notice: &M::Notice) -> Option<u32>
+        ensures value { result ≡ lowest (would_move M.Market.top M.Market.fault M.Market.after (width_of self.old.width) (M.Market.model self.old.below) notice.now) 1 16 }
+        ensures same { self.new ≡ self.old }
+    {
+        // No `find`: its closure would borrow the market to change, and nothing is proved of what such a closure leaves.
+        for component in 1..17 {
+            if self.moves(notice, component) {
+                return Some(component);
+            }
+        }
+        None
+    }
 }
 
 impl<M: Market> Market for Band<M>
@@ -113,18 +99,16 @@ where
     }
 
     fn foresee(&mut self, notice: &M::Notice, component: u32, side: Side) -> Option<Top> {
-        let width = self.width;
-        if lowest_moved(&mut self.below, notice, &width).is_some() {
+        if self.lowest_moved(notice).is_some() {
             return self.below.tell(component, side);
         }
         self.below.foresee(notice, component, side)
     }
 
     fn take(&mut self, notice: &M::Notice) -> Result<(), M::Fault> {
-        let width = self.width;
-        if let Some(component) = lowest_moved(&mut self.below, notice, &width) {
-            return Err(M::Fault::outside(component));
+        match self.lowest_moved(notice) {
+            Some(component) => Err(M::Fault::outside(component)),
+            None => self.below.take(notice),
         }
-        self.below.take(notice)
     }
 }

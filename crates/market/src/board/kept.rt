@@ -1,55 +1,39 @@
-ghost use Rattle.std.specs.Prelude.{◌≡◌, ℕ, ◌-◌, true, length, if◌then◌else◌, None, OnErr, OnOk, slice_index_or};
+ghost use Rattle.std.specs.Prelude.{◌≡◌, ℕ, None, OnErr, OnOk, IfOk};
+ghost use Rattle.std.specs.Result.{result_err};
 ghost use Rattle.terms.specs.declared.side.Side.{Side};
 ghost use Rattle.market.specs.declared.board.Board.{Board};
-ghost use Rattle.terms.specs.Ranges.{component as in_range};
 ghost use Rattle.market.specs.Meaning.{admission, led_by};
-ghost use Rattle.market.specs.Boards.{Shows, board_after, board_fault, board_top, heard, side_of, speaks_of, with_top};
+ghost use Rattle.market.specs.Boards.{Shows, board_after, board_fault, board_top, notice_component, heard, on_side, priced, notice_side, with_on_side, with_top};
 ghost use Rattle.std.proofs.Common.{rules};
 
-use super::{Board, BoardNotice};
+use super::{Board, BoardNotice, Tops};
 use crate::fault::{Cause, Fault};
 use crate::interface::Market;
+use crate::place::Place;
 use terms::price::Price;
 use terms::side::Side;
 use terms::top::Top;
 
-// The top of a component among those of one side.
-fn top_at(tops: &[Option<Top>; 16], component: u32) -> Option<Top>
-    ensures value { result ≡ (if in_range component then slice_index_or tops.now (component - 1) None else None) }
-    ensures full { length tops.now ≡ 16 }
-{
-    if component < 1 || component > 16 {
-        return None;
-    }
-    let top = &tops[(component - 1) as usize];
-    *top
-}
-
-impl BoardNotice {
-    // Why no board admits it, if that is so.
-    fn fault(&self) -> Option<Fault>
-        ensures { result ≡ board_fault self.now }
+impl Tops {
+    fn on(&self, side: Side) -> Option<Top>
+        ensures { result ≡ on_side self.now side }
     {
-        let (component, priced) = match self {
-            BoardNotice::Set {
-                component,
-                price,
-                ..
-            } => (*component, Price::new(*price).is_some()),
-            BoardNotice::Clear { component, .. } => (*component, true),
-        };
-        if component < 1 || component > 16 {
-            Some(Fault {
-                component: 0,
-                cause: Cause::OutOfRange,
-            })
-        } else if !priced {
-            Some(Fault {
-                component,
-                cause: Cause::OutOfRange,
-            })
-        } else {
-            None
+        match side {
+            Side::Buy => self.bid,
+            Side::Sell => self.offer,
+        }
+    }
+
+    // These tops with another one on that side.
+    fn with(&self, side: Side, top: Option<Top>) -> Tops
+        ensures { result ≡ with_on_side self.now side top }
+    {
+        match side {
+            Side::Buy => Tops { bid: top, ..*self },
+            Side::Sell => Tops {
+                offer: top,
+                ..*self
+            },
         }
     }
 }
@@ -59,66 +43,71 @@ impl Board {
     pub fn new() -> Board
         ensures { (c : ℕ) (s : Side) → board_top result c s ≡ None }
     {
-        Board {
-            bids: [None; 16],
-            offers: [None; 16],
-        }
+        let none = Tops {
+            bid: None,
+            offer: None,
+        };
+        Board { tops: [none; 16] }
     }
 
-    fn top(&self, component: u32, side: Side) -> Option<Top>
-        ensures value { result ≡ board_top self.now component side }
-        ensures full { length (side_of self.now side) ≡ 16 }
+    fn top(&self, place: Place) -> Option<Top>
+        ensures { result ≡ board_top self.now place.component place.side }
     {
-        match side {
-            Side::Buy => top_at(&self.bids, component),
-            Side::Sell => top_at(&self.offers, component),
-        }
+        self.tops[place.index()].on(place.side)
     }
 
     // The board with another top there.
-    fn set(&mut self, component: u32, side: Side, top: Option<Top>)
-        requires { in_range component ≡ true }
-        ensures value { self.new ≡ with_top self.old component side top }
-        ensures full { length (side_of self.old side) ≡ 16 }
+    fn set(&mut self, place: Place, top: Option<Top>)
+        ensures { self.new ≡ with_top self.old place.component place.side top }
     {
-        let at = (component - 1) as usize;
-        match side {
-            Side::Buy => self.bids[at] = top,
-            Side::Sell => self.offers[at] = top,
-        }
+        let at = place.index();
+        let tops = self.tops[at].with(place.side, top);
+        self.tops[at] = tops;
     }
 }
 
 impl BoardNotice {
-    // The top that it leaves where it speaks of.
+    // The component and side that it speaks of.
+    fn subject(&self) -> (u32, Side)
+        ensures component { result.0 ≡ notice_component self.now }
+        ensures side { result.1 ≡ notice_side self.now }
+    {
+        match self {
+            BoardNotice::Set(quoted) => (quoted.component, quoted.side),
+            BoardNotice::Clear { component, side } => (*component, *side),
+        }
+    }
+
+    // The top that it leaves there.
     fn heard(&self) -> Option<Top>
         ensures { result ≡ heard self.now }
     {
         match self {
-            BoardNotice::Set {
-                price,
-                customer,
-                ..
-            } => Top::new(*price, *customer),
+            BoardNotice::Set(quoted) => quoted.top(),
             BoardNotice::Clear { .. } => None,
         }
     }
 
-    // Whether it speaks of this component and side.
-    fn speaks_of(&self, component: u32, side: Side) -> bool
-        ensures { result ≡ speaks_of self.now component side }
+    fn priced(&self) -> bool
+        ensures { result ≡ priced self.now }
     {
         match self {
-            BoardNotice::Set {
-                component: c,
-                side: s,
-                ..
-            } => *c == component && *s == side,
-            BoardNotice::Clear {
-                component: c,
-                side: s,
-            } => *c == component && *s == side,
+            BoardNotice::Set(quoted) => Price::new(quoted.price).is_some(),
+            BoardNotice::Clear { .. } => true,
         }
+    }
+
+    // The place that it speaks of, if a board admits it.
+    fn admitted(&self) -> Result<Place, Fault>
+        ensures fault { result_err result ≡ board_fault self.now }
+        ensures place { IfOk result (λ p. (p.component ≡ notice_component self.now) × (p.side ≡ notice_side self.now)) }
+    {
+        let (component, side) = self.subject();
+        let place = Place::new(component, side).ok_or(Cause::OutOfRange.nowhere())?;
+        if !self.priced() {
+            return Err(Cause::OutOfRange.at(component));
+        }
+        Ok(place)
     }
 }
 
@@ -140,15 +129,15 @@ impl Market for Board {
     ghost placed = { Prim.search rules };
 
     fn tell(&mut self, component: u32, side: Side) -> Option<Top> {
-        self.top(component, side)
+        self.top(Place::new(component, side)?)
     }
 
     fn foresee(&mut self, notice: &BoardNotice, component: u32, side: Side) -> Option<Top> {
-        let present = self.top(component, side);
-        if notice.fault().is_none() && notice.speaks_of(component, side) {
+        let place = Place::new(component, side)?;
+        if notice.admitted().is_ok_and(|heard| heard == place) {
             notice.heard()
         } else {
-            present
+            self.top(place)
         }
     }
 
@@ -158,18 +147,8 @@ impl Market for Board {
         ensures kept { OnErr result (self.new ≡ self.old) }
         ensures shows { OnOk result (Shows self.old notice.now self.new) }
     {
-        if let Some(fault) = notice.fault() {
-            return Err(fault);
-        }
-        let top = notice.heard();
-        match notice {
-            BoardNotice::Set {
-                component,
-                side,
-                ..
-            } => self.set(*component, *side, top),
-            BoardNotice::Clear { component, side } => self.set(*component, *side, top),
-        }
+        let place = notice.admitted()?;
+        self.set(place, notice.heard());
         Ok(())
     }
 }

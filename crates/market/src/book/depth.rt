@@ -1,15 +1,17 @@
-ghost use Rattle.std.specs.Prelude.{◌≡◌, ℕ, ◌<◌, ◌≤◌, cond, List, [], ◌∷◌, ◌++◌, length, IfOk, None};
-ghost use Rattle.std.specs.List.{remove};
+ghost use Rattle.std.specs.Prelude.{◌≡◌, ◌<◌, ◌&&◌, List, [], length, position, IfOk, ◌==◌, is_some};
+ghost use Rattle.std.specs.Result.{result_err};
+ghost use Rattle.terms.specs.Ranges.{number as number_in_range};
 ghost use Rattle.terms.specs.Tables.{entries};
 ghost use Rattle.terms.specs.Tops.{top_of};
-ghost use Rattle.market.specs.Meaning.{led};
 ghost use Rattle.market.specs.declared.book.BookOrder.{BookOrder};
-ghost use Rattle.market.specs.Books.{ShowsBest, add_fault, best_among, better, book_after, book_fault, book_top, joined, order_of, place_of, with_order, withdraw_fault};
+ghost use Rattle.market.specs.Books.{Fits, IsOrder, ShowsBest, add_fault, best_among, better, book_after, book_fault, book_top, changed, is_at, joined, place_of, with_order, withdraw_fault};
 ghost use Rattle.std.proofs.Common.{rules};
 
 use super::{BookNotice, BookOrder, DepthBook};
 use crate::fault::{Cause, Fault};
 use crate::interface::Market;
+use crate::place::Place;
+use crate::quoted::Quoted;
 use std::alloc::{AllocError, Global};
 use terms::side::Side;
 use terms::table::Table;
@@ -20,8 +22,8 @@ fn better(side: Side, a: &Top, b: &Top) -> bool
     ensures { result ≡ better side a.now b.now }
 {
     match side {
-        Side::Buy => a.price.cents() > b.price.cents(),
-        Side::Sell => a.price.cents() < b.price.cents(),
+        Side::Buy => a.price > b.price,
+        Side::Sell => a.price < b.price,
     }
 }
 
@@ -42,167 +44,120 @@ fn joined(side: Side, best: &Top, top: &Top) -> Top
 }
 
 impl BookOrder {
-    // The best so far of a component and side, with this order if it is there.
-    fn join(&self, component: u32, side: Side, best: Option<Top>) -> Option<Top>
-        ensures { result ≡ with_order component side best self.now }
+    fn is_at(&self, place: Place) -> bool
+        ensures { result ≡ is_at place.component place.side self.now }
     {
-        if self.component != component || self.side != side {
+        self.component == place.component && self.side == place.side
+    }
+
+    // The best so far of a place, with this order if it is there.
+    fn join(&self, place: Place, best: Option<Top>) -> Option<Top>
+        ensures { result ≡ with_order place.component place.side best self.now }
+    {
+        if !self.is_at(place) {
             return best;
         }
-        match best {
-            Some(best) => Some(joined(side, &best, &self.top)),
-            None => Some(self.top),
-        }
+        Some(best.map_or(self.top, |best| joined(place.side, &best, &self.top)))
     }
 }
 
-// The best so far of a component and side, with those of these orders that are there.
-fn best_among(
-    component: u32,
-    side: Side,
-    mut best: Option<Top>,
-    orders: &[BookOrder],
-) -> Option<Top>
-    ensures { result ≡ best_among component side best orders.now }
+// The best so far of a place, with those of these orders that are there.
+fn best_among(place: Place, best: Option<Top>, orders: &[BookOrder]) -> Option<Top>
+    ensures { result ≡ best_among place.component place.side best orders.now }
 {
-    for order in orders {
-        best = order.join(component, side, best);
-    }
-    best
+    orders
+        .iter()
+        .fold(best, |best, order| order.join(place, best))
 }
 
-// The place of the order with this number, or behind the last.
-fn place_of(number: u32, orders: &[BookOrder]) -> usize
-    ensures value { result ≡ place_of number orders.now }
-    ensures bound { result ≤ length orders.now }
+// The place of the order with this number, searched for: a map would want memory at each notice.
+fn place_of(number: u32, orders: &[BookOrder]) -> Option<usize>
+    ensures { result ≡ position (λ o. o.number == number) orders.now }
 {
-    for (i, order) in orders.iter().enumerate() {
-        if order.number == number {
-            return i;
-        }
-    }
-    orders.len()
+    orders.iter().position(|order| order.number == number)
 }
 
-// What a book with these orders shows.
-fn top_among(component: u32, side: Side, orders: &[BookOrder]) -> Option<Top>
-    ensures { result ≡ book_top orders.now component side }
+fn is_number(number: u32) -> bool
+    ensures { result ≡ number_in_range number }
 {
-    if component < 1 || component > 16 {
-        return None;
-    }
-    best_among(component, side, None, orders)
+    (1..=999_999).contains(&number)
 }
 
-// What it would show with one order more.
-fn top_with(component: u32, side: Side, orders: &[BookOrder], order: &BookOrder) -> Option<Top>
-    ensures { result ≡ book_top (orders.now ++ (order.now ∷ [])) component side }
-{
-    if component < 1 || component > 16 {
-        return None;
-    }
-    let best = best_among(component, side, None, orders);
-    order.join(component, side, best)
+// What an admitted notice does to the orders.
+#[derive(Clone, Copy)]
+enum Change {
+    Added(BookOrder),
+    Withdrawn(usize),
 }
 
-// What it would show without the order at this place.
-fn top_without(component: u32, side: Side, orders: &[BookOrder], at: usize) -> Option<Top>
-    requires { at < length orders.now }
-    ensures { result ≡ book_top (remove orders.now at) component side }
+// The order that a notice adds, if a book with these orders admits it.
+fn added(orders: &[BookOrder], number: u32, quoted: &Quoted) -> Result<BookOrder, Fault>
+    ensures fault { result_err result ≡ add_fault orders.now number quoted.now.component (is_some (top_of quoted.now.price quoted.now.customer)) }
+    ensures order { IfOk result (IsOrder number quoted.now) }
+    ensures room { IfOk result (λ o. length orders.now < 64) }
 {
-    if component < 1 || component > 16 {
-        return None;
-    }
-    let best = best_among(component, side, None, &orders[0..at]);
-    best_among(component, side, best, &orders[at + 1..orders.len()])
-}
-
-// The order with these values, if the price is in range.
-fn order_of(
-    number: u32,
-    component: u32,
-    side: Side,
-    price: u32,
-    customer: bool,
-) -> Option<BookOrder>
-    ensures { result ≡ order_of number component side (top_of price customer) }
-{
-    match Top::new(price, customer) {
-        Some(top) => Some(BookOrder {
-            number,
-            component,
-            side,
-            top,
-        }),
-        None => None,
-    }
-}
-
-// Why a book with these orders does not admit the notice, if that is so.
-fn book_fault(orders: &[BookOrder], notice: &BookNotice) -> Option<Fault>
-    ensures { result ≡ book_fault orders.now notice.now }
-{
-    match notice {
-        BookNotice::Add {
-            number,
-            component,
-            price,
-            customer,
-            ..
-        } => {
-            let priced = Top::new(*price, *customer).is_some();
-            add_fault(orders, *number, *component, priced)
-        }
-        BookNotice::Withdraw { number } => withdraw_fault(orders, *number),
-    }
-}
-
-fn add_fault(orders: &[BookOrder], number: u32, component: u32, priced: bool) -> Option<Fault>
-    ensures { result ≡ add_fault orders.now number component priced }
-{
-    if component < 1 || component > 16 {
-        return Some(Fault {
-            component: 0,
-            cause: Cause::OutOfRange,
-        });
-    }
-    if number < 1 || number > 999_999 || !priced {
-        return Some(Fault {
-            component,
-            cause: Cause::OutOfRange,
-        });
+    let Quoted {
+        component,
+        side,
+        ..
+    } = *quoted;
+    Place::new(component, side).ok_or(Cause::OutOfRange.nowhere())?;
+    let top = quoted.top().ok_or(Cause::OutOfRange.at(component))?;
+    if !is_number(number) {
+        return Err(Cause::OutOfRange.at(component));
     }
     if orders.len() >= 64 {
-        return Some(Fault {
-            component,
-            cause: Cause::BookFull,
-        });
+        return Err(Cause::BookFull.at(component));
     }
-    if place_of(number, orders) < orders.len() {
-        return Some(Fault {
-            component,
-            cause: Cause::OrderNumber,
-        });
+    if place_of(number, orders).is_some() {
+        return Err(Cause::OrderNumber.at(component));
     }
-    None
+    Ok(BookOrder {
+        number,
+        component,
+        side,
+        top,
+    })
 }
 
-fn withdraw_fault(orders: &[BookOrder], number: u32) -> Option<Fault>
-    ensures { result ≡ withdraw_fault orders.now number }
+// The place of the order that a notice withdraws, if a book with these orders admits it.
+fn withdrawn(orders: &[BookOrder], number: u32) -> Result<usize, Fault>
+    ensures fault { result_err result ≡ withdraw_fault orders.now number }
+    ensures place { IfOk result (λ at. at ≡ place_of number orders.now) }
+    ensures within { IfOk result (λ at. at < length orders.now) }
 {
-    if number < 1 || number > 999_999 {
-        return Some(Fault {
-            component: 0,
-            cause: Cause::OutOfRange,
-        });
+    if !is_number(number) {
+        return Err(Cause::OutOfRange.nowhere());
     }
-    if place_of(number, orders) >= orders.len() {
-        return Some(Fault {
-            component: 0,
-            cause: Cause::OrderNumber,
-        });
+    place_of(number, orders).ok_or(Cause::OrderNumber.nowhere())
+}
+
+impl Change {
+    // What the notice does, if a book with these orders admits it.
+    fn of(orders: &[BookOrder], notice: &BookNotice) -> Result<Change, Fault>
+        ensures fault { result_err result ≡ book_fault orders.now notice.now }
+        ensures after { IfOk result (λ c. changed orders.now c ≡ book_after orders.now notice.now) }
+        ensures fits { IfOk result (Fits orders.now) }
+    {
+        match notice {
+            BookNotice::Add { number, quoted } => added(orders, *number, quoted).map(Change::Added),
+            BookNotice::Withdraw { number } => withdrawn(orders, *number).map(Change::Withdrawn),
+        }
     }
-    None
+
+    // The best of a place among what it leaves of these orders.
+    fn best(&self, place: Place, orders: &[BookOrder]) -> Option<Top>
+        requires { Fits orders.now self.now }
+        ensures { result ≡ best_among place.component place.side None (changed orders.now self.now) }
+    {
+        match self {
+            Change::Added(order) => order.join(place, best_among(place, None, orders)),
+            Change::Withdrawn(at) => {
+                let before = best_among(place, None, &orders[..*at]);
+                best_among(place, before, &orders[*at + 1..])
+            }
+        }
+    }
 }
 
 impl DepthBook {
@@ -232,64 +187,32 @@ impl Market for DepthBook {
 
     ghost placed = { Prim.search rules };
 
+    #[tactic(auto, using(crate::proofs::Besting::shows_best))]
     fn tell(&mut self, component: u32, side: Side) -> Option<Top>
         ensures value { result ≡ book_top (entries self.old.orders) component side }
         ensures same { self.new ≡ self.old }
         ensures best { ShowsBest (entries self.old.orders) component side result }
     {
-        top_among(component, side, self.orders.entries())
+        let place = Place::new(component, side)?;
+        best_among(place, None, self.orders.entries())
     }
 
     fn foresee(&mut self, notice: &BookNotice, component: u32, side: Side) -> Option<Top> {
-        foreseen(component, side, self.orders.entries(), notice)
+        let place = Place::new(component, side)?;
+        let orders = self.orders.entries();
+        match Change::of(orders, notice) {
+            Ok(change) => change.best(place, orders),
+            Err(_) => best_among(place, None, orders),
+        }
     }
 
     fn take(&mut self, notice: &BookNotice) -> Result<(), Fault> {
-        if let Some(fault) = book_fault(self.orders.entries(), notice) {
-            return Err(fault);
-        }
-        match notice {
-            BookNotice::Add {
-                number,
-                component,
-                side,
-                price,
-                customer,
-            } => {
-                if let Some(order) = order_of(*number, *component, *side, *price, *customer) {
-                    let _added = self.orders.add(order);
-                }
+        match Change::of(self.orders.entries(), notice)? {
+            Change::Added(order) => {
+                let _added = self.orders.add(order);
             }
-            BookNotice::Withdraw { number } => {
-                let at = place_of(*number, self.orders.entries());
-                self.orders.remove(at);
-            }
+            Change::Withdrawn(at) => self.orders.remove(at),
         }
         Ok(())
-    }
-}
-
-// What a book with these orders would show after the notice.
-fn foreseen(component: u32, side: Side, orders: &[BookOrder], notice: &BookNotice) -> Option<Top>
-    ensures { result ≡ book_top (led book_fault book_after orders.now notice.now) component side }
-{
-    if book_fault(orders, notice).is_some() {
-        return top_among(component, side, orders);
-    }
-    match notice {
-        BookNotice::Add {
-            number,
-            component: c,
-            side: s,
-            price,
-            customer,
-        } => match order_of(*number, *c, *s, *price, *customer) {
-            Some(order) => top_with(component, side, orders, &order),
-            None => top_among(component, side, orders),
-        },
-        BookNotice::Withdraw { number } => {
-            let at = place_of(*number, orders);
-            top_without(component, side, orders, at)
-        }
     }
 }

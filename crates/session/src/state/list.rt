@@ -1,12 +1,8 @@
-ghost use Rattle.std.specs.Prelude.{◌≡◌, ◌+◌, false, [], ◌∷◌, ◌++◌, length, nat_le};
 ghost use Rattle.terms.specs.Refusals.{said};
-ghost use Rattle.terms.specs.Strategies.{legs_of};
-ghost use Rattle.session.specs.States.{with_strategies};
 ghost use Rattle.session.specs.Steps.{Does, list_step};
 ghost use Rattle.session.specs.Views.{view};
 
-use super::{Phase, Session};
-use crate::rows::{Standing, tally};
+use super::Session;
 use market::interface::Market;
 use terms::leg::Leg;
 use terms::refusal::Refusal;
@@ -17,37 +13,10 @@ impl<M: Market, S> Session<M, S> {
     pub fn list(&mut self, legs: &[Leg]) -> Result<u32, Refusal<M::Fault>>
         ensures { Does (list_step (view M.Market.model self.old) legs.now) (said result) (view M.Market.model self.new) }
     {
-        let Phase::Listing = self.phase else {
-            return Err(Refusal::Phase);
-        };
-        let due = tally(&self.auctions, Standing::Due);
-        if due > 0 {
-            return Err(Refusal::Due(due));
-        }
-        let Some(strategy) = Strategy::new(legs) else {
-            return Err(Refusal::Range);
-        };
-        if self.lists_full() {
-            return Err(Refusal::Full);
-        }
-        Ok(self.enlist(strategy))
-    }
-
-    // Whether there is no room for another strategy.
-    fn lists_full(&self) -> bool
-        ensures { result ≡ nat_le 8 (length (view M.Market.model self.now).strategies) }
-    {
-        self.strategies.is_full()
-    }
-
-    // Puts a strategy behind those listed, and gives its number.
-    fn enlist(&mut self, strategy: Strategy) -> u32
-        requires { nat_le 8 (length (view M.Market.model self.old).strategies) ≡ false }
-        ensures value { result ≡ length (view M.Market.model self.old).strategies + 1 }
-        ensures after { view M.Market.model self.new ≡ with_strategies (view M.Market.model self.old) ((view M.Market.model self.old).strategies ++ (legs_of strategy ∷ [])) }
-    {
-        let count = self.strategies.entries().len();
-        let _added = self.strategies.add(strategy);
-        count as u32 + 1
+        self.unless_due(self.phase.is_listing())?;
+        // A closure, for the plain value would have to be one that can be dropped.
+        let strategy = Strategy::new(legs).ok_or_else(|| Refusal::Range)?;
+        self.strategies.add(strategy).map_err(|_| Refusal::Full)?;
+        Ok(self.strategies.entries().len() as u32)
     }
 }

@@ -18,9 +18,8 @@ impl<M: Market, S> Session<M, S> {
     pub fn read(&mut self, strategy: u32) -> Result<Reading, Refusal<M::Fault>>
         ensures { Does (read_step M.Market.top (view M.Market.model self.old) strategy) (said result) (view M.Market.model self.new) }
     {
-        let Some(legs) = strategy_at(&self.strategies, strategy) else {
-            return Err(Refusal::Range);
-        };
+        // A closure, for the plain value would have to be one that can be dropped.
+        let legs = strategy_at(&self.strategies, strategy).ok_or_else(|| Refusal::Range)?;
         Ok(self.reading(strategy, &legs))
     }
 

@@ -1,4 +1,4 @@
-ghost use Rattle.std.specs.Prelude.{◌≡◌, ◌≤◌, true, Option};
+ghost use Rattle.std.specs.Prelude.{◌≡◌, ◌≤◌, Option};
 ghost use Rattle.terms.specs.Prices.{price_of};
 
 use super::Price;
@@ -8,10 +8,11 @@ impl Price {
     pub fn new(cents: u32) -> Option<Price>
         ensures { result ≡ price_of cents }
     {
-        if cents < 1 || cents > 999_999 {
-            return None;
+        if (1..=999_999).contains(&cents) {
+            Some(Price { cents })
+        } else {
+            None
         }
-        Some(Price { cents })
     }
 
     pub fn cents(&self) -> u32

@@ -1,6 +1,6 @@
-ghost use Rattle.std.specs.Prelude.{◌≡◌, ◌≤◌, true, length, if◌then◌else◌, Some, None};
+ghost use Rattle.std.specs.Prelude.{◌≡◌, true, if◌then◌else◌, Some, None};
 ghost use Rattle.std.specs.Option.{option_map};
-ghost use Rattle.terms.specs.Legs.{names, well_formed};
+ghost use Rattle.terms.specs.Legs.{apart, names, well_formed};
 ghost use Rattle.terms.specs.Strategies.{legs_of};
 
 use super::Strategy;
@@ -11,27 +11,26 @@ use crate::side::Side;
 fn names_component(component: u32, legs: &[Leg]) -> bool
     ensures { result ≡ names component legs.now }
 {
-    for leg in legs {
-        if leg.component == component {
-            return true;
+    legs.iter().any(|leg| leg.component == component)
+}
+
+// Whether each leg is in range and on a component that no later leg is on.
+fn are_apart(legs: &[Leg]) -> bool
+    ensures { result ≡ apart legs.now }
+{
+    match legs {
+        [] => true,
+        [leg, later @ ..] => {
+            leg.fits() && !names_component(leg.component, later) && are_apart(later)
         }
     }
-    false
 }
 
 // Whether these legs make a strategy.
 fn makes_strategy(legs: &[Leg]) -> bool
     ensures { result ≡ well_formed legs.now }
 {
-    if legs.len() < 2 || legs.len() > 4 {
-        return false;
-    }
-    for i in 0..legs.len() {
-        if !legs[i].fits() || names_component(legs[i].component, &legs[i + 1..legs.len()]) {
-            return false;
-        }
-    }
-    true
+    (2..=4).contains(&legs.len()) && are_apart(legs)
 }
 
 impl Strategy {

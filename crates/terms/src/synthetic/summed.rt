@@ -1,4 +1,4 @@
-ghost use Rattle.std.specs.Prelude.{◌≡◌, ◌+◌, ◌*◌, ◌<◌, ◌≤◌, true, ◌||◌, pos, negsuc, ◌≤ℤ◌, IfSome};
+ghost use Rattle.std.specs.Prelude.{◌≡◌, ℕ, ◌+◌, ◌*◌, ◌≤◌, true, pos, negsuc, ◌≤ℤ◌, IfSome};
 ghost use Rattle.terms.specs.Legs.{leg_fits};
 ghost use Rattle.terms.specs.Ranges.{complex_price};
 ghost use Rattle.terms.specs.Strategies.{legs_of};
@@ -34,23 +34,17 @@ fn worth(leg: &Leg, top: &Top) -> i32
     }
 }
 
-fn either(a: bool, b: bool) -> bool
-    ensures { result ≡ (a || b) }
-{
-    a || b
-}
-
-// A price so far with what one more leg adds to it, where `before` legs were added.
-fn plus(sum: Synthetic, before: usize, leg: &Leg, top: &Top) -> Synthetic
+// A price so far with what one more leg adds to it. Before the last leg three were added at most.
+fn plus(sum: Synthetic, leg: &Leg, top: &Top) -> Synthetic
     requires fit { leg_fits leg.now ≡ true }
-    requires few { before < 4 }
-    requires bound { Within before sum.price }
+    requires bound { Within 3 sum.price }
     ensures value { result ≡ plus sum leg.now top.now }
-    ensures bound { Within (before + 1) result.price }
+    ensures bound { (n : ℕ) → Within n sum.price → Within (n + 1) result.price }
 {
-    let price = sum.price + worth(leg, top);
-    let customer = either(sum.customer, top.customer);
-    Synthetic { price, customer }
+    Synthetic {
+        price: sum.price + worth(leg, top),
+        customer: sum.customer || top.customer,
+    }
 }
 
 impl Strategy {
@@ -59,20 +53,14 @@ impl Strategy {
         ensures value { result ≡ valued (legs_of self.now) (shown (legs_of self.now) tops.now) }
         ensures range { IfSome result (λ s. complex_price s.price ≡ true) }
     {
-        let legs = self.legs();
         let mut sum = Synthetic {
             price: 0,
             customer: false,
         };
-        for i in 0..legs.len() {
-            if i >= tops.len() {
-                return None;
-            }
-            let top = &tops[i];
-            let Some(top) = top else {
-                return None;
-            };
-            sum = plus(sum, i, &legs[i], top);
+        let mut left = tops.iter();
+        for leg in self.legs() {
+            let top = left.next()?.as_ref()?;
+            sum = plus(sum, leg, top);
         }
         Some(sum)
     }

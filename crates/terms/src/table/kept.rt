@@ -1,4 +1,4 @@
-ghost use Rattle.std.specs.Prelude.{◌≡◌, ◌≤◌, [], ◌∷◌, ◌++◌, length, IfOk, if◌then◌else◌, nat_le, nat_lt};
+ghost use Rattle.std.specs.Prelude.{◌≡◌, ◌≤◌, [], ◌∷◌, ◌++◌, length, IfOk, IfErr, is_ok, if◌then◌else◌, nat_le, nat_lt};
 ghost use Rattle.std.specs.List.{remove};
 ghost use Rattle.terms.specs.Tables.{entries};
 
@@ -29,16 +29,17 @@ impl<T, const N: usize> Table<T, N> {
 }
 
 impl<T: Drop, const N: usize> Table<T, N> {
-    // Adds an entry behind the last, if there is room for it, and tells whether there was.
-    pub fn add(&mut self, entry: T) -> bool
-        ensures value { result ≡ nat_lt (length (entries self.old)) N }
-        ensures after { entries self.new ≡ (if result then entries self.old ++ (entry ∷ []) else entries self.old) }
+    // Adds an entry behind the last, or gives it back where there is no room for it.
+    pub fn add(&mut self, entry: T) -> Result<(), T>
+        ensures value { is_ok result ≡ nat_lt (length (entries self.old)) N }
+        ensures after { entries self.new ≡ (if is_ok result then entries self.old ++ (entry ∷ []) else entries self.old) }
+        ensures given_back { IfErr result (λ e. e ≡ entry) }
     {
-        if self.items.len() >= N {
-            return false;
+        if self.is_full() {
+            return Err(entry);
         }
         self.items.push_reserved(entry);
-        true
+        Ok(())
     }
 
     // Takes out the entry at this place, if there is one.

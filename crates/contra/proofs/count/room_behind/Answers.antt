@@ -1,9 +1,9 @@
+use Rattle.std.proofs.Common.{◌≡◌, ◌-◌, fold, ◌∙◌, rules}
 use Rattle.contra.specs.Counting.{brings}
-use Rattle.contra.proofs.Counting.{room_all, room_on}
+use Rattle.contra.proofs.Counting.{room_left}
 use Rattle.contra.proofs.count.room_behind.Goals as goal
 
-pub loop-other-preserved : goal.loop-other-preserved
-loop-other-preserved c = room_on (brings c.args.item.now) _ _ _ _ c.loop-other.invariant _ _ _ c.loop-other-test.true c.brought.ensures c.saturating_sub-room.ensures
-
 pub returns : goal.returns
-returns c = room_all (brings c.args.item.now) _ _ _ _ c.loop-other.invariant c.loop-other-test.false
+returns c =
+    let e : c.fold.result ≡ fold (λ room other. room - brings c.args.item.now other) c.args.size c.args.earlier.now = search rules in
+    e ∙ room_left (brings c.args.item.now) c.args.earlier.now c.args.size

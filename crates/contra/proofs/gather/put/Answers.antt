@@ -1,6 +1,6 @@
-use Rattle.std.proofs.Common.{[], refl}
+use Rattle.std.proofs.Common.{[]}
 use Rattle.ranked.specs.Contras.{contra_before}
-use Rattle.contra.proofs.Gathering.{put_none, put_none_len, put_some, put_some_len, put_some_size}
+use Rattle.contra.proofs.Gathering.{put_none, put_some, put_some_len, put_some_size}
 use Rattle.contra.proofs.gather.put.Goals as goal
 
 pub returns-in-Some : goal.returns-in-Some
@@ -14,5 +14,5 @@ returns-in-Some c =
       owner = c.insert-put.ensures.owner;
     }
 
-pub returns-in-None : goal.returns-in-None
-returns-in-None c = record { after = put_none _ _ _ _ c.in-None.is; len = put_none_len _ _ c.in-None.is; size = refl; owner = refl }
+pub returns-in_default-clause-after : goal.returns-in_default-clause-after
+returns-in_default-clause-after c = put_none _ _ _ _ c.in_default.is

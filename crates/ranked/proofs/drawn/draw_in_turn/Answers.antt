@@ -23,5 +23,5 @@ returns g c =
     record {
       after = e;
       bound = omega arith;
-      drawing = drawing_is n d g.met.T.Drawn.left g.T.Ranked.rank g.met.T.Drawn.ranked g.T.Ranked.before g.met.T.Ranked.level g.met.T.Ranked.passed _ _ _ _ (lesser_drawn n d _ _ _ _ _ i.0 i.1 i.2 k) e;
+      drawing = drawing_is n d g.met.T.Drawn.left g.T.Ranked.rank g.met.T.Drawn.ranked g.met.T.Rank.Ord.total g.T.Ranked.before g.met.T.Ranked.compares _ _ _ _ (lesser_drawn n d _ _ _ _ _ i.0 i.1 i.2 k) e;
     }

@@ -1,14 +1,11 @@
-use Rattle.std.proofs.Common.{◌∙◌}
-use Rattle.std.proofs.lemmas.Slice.Eq.{slice_eq-Decides}
-use Rattle.script.proofs.Lookups.{here, later, nowhere}
+use Rattle.std.proofs.Common.{rules, tests, ◌∙◌}
+use Rattle.std.proofs.lemmas.Iterator.{YieldsList-from_slice}
+use Rattle.std.proofs.lemmas.Iterator.Search.{find_from_yields_List}
+use Rattle.std.specs.Str.{bytes_eq}
+use Rattle.script.specs.Keywords.{spelling}
 use Rattle.script.proofs.keyword.spelled_among.Goals as goal
-use Rattle.std.proofs.lemmas.Bool.Decides.{Decides-eqb}
-
-pub returns-then-eq : goal.returns-then-eq
-returns-then-eq c = here _ _ _ c.loop-keyword.invariant _ _ _ c.loop-keyword-test.true (c.as_bytes.ensures.value ∙ c.spelling.ensures) (slice_eq-Decides Decides-eqb _ _ _ c.eq.ensures) c.if-eq.true
-
-pub loop-keyword-preserved : goal.loop-keyword-preserved
-loop-keyword-preserved c = later _ _ _ c.loop-keyword.invariant _ _ _ c.loop-keyword-test.true (c.as_bytes.ensures.value ∙ c.spelling.ensures) (slice_eq-Decides Decides-eqb _ _ _ c.eq.ensures) c.if-eq.false
 
 pub returns : goal.returns
-returns c = nowhere _ _ _ c.loop-keyword.invariant c.loop-keyword-test.false
+returns c =
+    c.copied.ensures
+    ∙ find_from_yields_List (λ k. bytes_eq (spelling k) c.args.bytes.now) _ _ _ c.find.ensures.ran (YieldsList-from_slice c.args.some.now cc) (λ x b q k. search (rules, tests))

@@ -1,8 +1,11 @@
-use Rattle.script.proofs.Lexing.{one_word}
+use Rattle.std.proofs.Common.{◌-◌, length, ap, refl, take}
+use Rattle.script.proofs.Lexing.{no_word, one_word}
 use Rattle.script.proofs.lex.lexed_words.Goals as goal
 
-pub loop-span-preserved : goal.loop-span-preserved
-loop-span-preserved c = (
-  one_word _ _ _ c.loop-span.invariant.0 _ _ _ _ _ c.in-Some.ensures.0 c.word_of.ensures.value c.in-Some-word_of.is c.in_ok-push.ensures.items,
-  c.in-Some.ensures.3,
-)
+pub loop-spelling-preserved : goal.loop-spelling-preserved
+loop-spelling-preserved c = one_word _ _ _ c.loop-spelling.invariant _ _ c.word_of.result c.in-Some.ensures c.word_of.ensures.value _ _ c.in-Some-word_of.is c.in_ok-push.ensures.items
+
+pub returns-in_default-word_of : goal.returns-in_default-word_of
+returns-in_default-word_of c =
+    no_word _ _ _ c.loop-spelling.invariant _ _ c.word_of.result c.in-Some.ensures c.word_of.ensures.value c.args.line.now _ refl c.in_default-word_of.is
+    (ap (λ n. length (take n c.args.line.now) - length c.in-Some.after.now - length c.in-Some.spelling.now) c.uncommented_len.ensures.value)

@@ -1,12 +1,10 @@
-use Rattle.std.proofs.Common.{◌≡◌, ◌-◌, ◌≤◌, length, drop, vec_items}
-use Rattle.script.specs.Lexed.{read_at, spans}
-use Rattle.script.proofs.Lexing.{prefixed}
+use Rattle.std.proofs.Common.{length, vec_items}
+use Rattle.script.specs.Lexed.{uncommented}
+use Rattle.script.proofs.Lexing.{Left}
 use Rattle.script.proofs.lex.lexed_words.Given as goal
 
-abbrev pub invariant-loop-span : goal.invariant-loop-span
-invariant-loop-span l =
-    (prefixed (vec_items l.words) (read_at l.text (spans l.at (drop l.at l.text))) ≡ read_at l.text (spans 0 l.text))
-    × (l.at ≤ length l.text)
+abbrev pub invariant-loop-spelling : goal.invariant-loop-spelling
+invariant-loop-spelling l = Left (uncommented l.line) (vec_items l.words) l.rest
 
-abbrev pub decreases-loop-span : goal.decreases-loop-span
-decreases-loop-span l = length l.text - l.at
+abbrev pub decreases-loop-spelling : goal.decreases-loop-spelling
+decreases-loop-spelling l = length l.rest

@@ -1,12 +1,9 @@
-use Rattle.std.proofs.Common.{◌≡◌, ◌+◌, ◌-◌, ◌≤◌, length, drop, vec_items}
-use Rattle.script.specs.Legs.{each, pieces}
-use Rattle.script.proofs.Listing.{gathered}
+use Rattle.std.proofs.Common.{◌≡◌, Some, map, vec_items}
+use Rattle.script.specs.Legs.{each}
 use Rattle.script.proofs.line.legs.Given as goal
 
-abbrev pub invariant-loop-leg : goal.invariant-loop-leg
-invariant-loop-leg l =
-    (gathered (vec_items l.legs) (each (pieces (drop l.at l.words))) ≡ each (pieces l.words))
-    × (l.at ≤ length l.words)
-
-abbrev pub decreases-loop-leg : goal.decreases-loop-leg
-decreases-loop-leg l = length l.words + 1 - l.at
+abbrev pub invariant-loop-piece : goal.invariant-loop-piece
+invariant-loop-piece l =
+    (goal.iterator-loop-piece).can_next l.piece-iterator
+    × (goal.iterator-loop-piece).is_finite l.piece-iterator
+    × (each (map (λ p. p.now) l.yielded) ≡ Some (vec_items l.legs))

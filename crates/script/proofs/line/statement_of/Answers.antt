@@ -1,5 +1,5 @@
 use Rattle.script.proofs.Speaking.{speaking}
 use Rattle.script.proofs.line.statement_of.Goals as goal
 
-pub returns : goal.returns
-returns c = record { value = c.parsed.ensures; speaks = speaking c.parsed.result _ c.parsed.ensures }
+pub returns-clause-speaks : goal.returns-clause-speaks
+returns-clause-speaks c = speaking c.parsed.result _ c.parsed.ensures

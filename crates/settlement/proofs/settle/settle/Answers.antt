@@ -1,48 +1,36 @@
-use Rattle.std.proofs.Common.{◌≤◌, length, w32, SFits, arith, rules}
+use Rattle.std.proofs.Common.{◌≤◌, w32, SFits, arith, rules}
 use Rattle.std.proofs.lemmas.Bool.Decides.{nat_tests}
-use Rattle.terms.specs.Tables.{entries}
-use Rattle.settlement.proofs.Closing.{close_answer, close_contra, close_few, close_fills, close_filled, close_fits, close_law, close_room, close_turns}
+use Rattle.settlement.proofs.Closing.{close_filled, close_fits, close_law, close_most}
 use Rattle.settlement.proofs.Sharing.{shares_by}
 use Rattle.settlement.proofs.settle.settle.Goals as goal
 
-pub fill_and_show-fills-requires : goal.fill_and_show-fills-requires
-fill_and_show-fills-requires g c =
-    let awards = g.S.ShareRule.awards c.args.rule.now in
-    let laws = g.met.S.ShareRule in
-    let shares = shares_by g.S.ShareRule.awards laws.each laws.within laws.spent c.args.rule.now in
-    let a = c.args.auction.now.row in
-    let ok = c.args.auction.now.kept in
-    let most : a.size ≤ 100000 = grind (arith, nat_tests) in
-    let stop : SFits w32 a.stop = search rules in
-    let os = entries c.args.orders.now in
-    let rs = entries c.args.responses.now in
+pub fill_and_show-fills-requires-clause-fits : goal.fill_and_show-fills-requires-clause-fits
+fill_and_show-fills-requires-clause-fits g c =
+    let a = c.args.auction.now in
+    let most : a.row.size ≤ 100000 = grind (arith, nat_tests, a.kept) in
     let e = c.in_ok-items.ensures in
-    let long : 257 ≤ length c.args.fills.now = omega (arith, c.if-fills-lt-MOST_FILLS.false) in
-    record {
-      few = close_few awards shares a ok most os rs c.args.contra.now c.contra_items.new.list c.in_ok-items.items e.answer e.after e.law e.turns stop;
-      fits = close_fits awards shares a ok most os rs c.args.contra.now c.contra_items.new.list c.in_ok-items.items e.answer e.after e.law e.turns stop;
-      room = close_room awards shares a ok most os rs c.args.contra.now c.contra_items.new.list c.in_ok-items.items e.answer e.after e.law e.turns stop _ long;
-      turns = close_turns awards shares a ok most os rs c.args.contra.now c.contra_items.new.list c.in_ok-items.items e.answer e.after e.law e.turns stop;
-      filled = close_filled awards shares a ok most os rs c.args.contra.now c.contra_items.new.list c.in_ok-items.items e.answer e.after e.law e.turns stop;
-    }
+    close_fits (g.S.ShareRule.awards c.args.rule.now) a.row a.kept _ _ c.args.contra.now _ _ e.answer e.after e.law most
 
-pub returns : goal.returns
-returns g c =
-    let awards = g.S.ShareRule.awards c.args.rule.now in
+pub fill_and_show-fills-requires-clause-most : goal.fill_and_show-fills-requires-clause-most
+fill_and_show-fills-requires-clause-most g c =
     let laws = g.met.S.ShareRule in
     let shares = shares_by g.S.ShareRule.awards laws.each laws.within laws.spent c.args.rule.now in
-    let a = c.args.auction.now.row in
-    let ok = c.args.auction.now.kept in
-    let most : a.size ≤ 100000 = grind (arith, nat_tests) in
-    let stop : SFits w32 a.stop = search rules in
-    let os = entries c.args.orders.now in
-    let rs = entries c.args.responses.now in
+    let a = c.args.auction.now in
     let e = c.in_ok-items.ensures in
-    let long : 257 ≤ length c.args.fills.now = omega (arith, c.if-fills-lt-MOST_FILLS.false) in
+    close_most (g.S.ShareRule.awards c.args.rule.now) a.row a.kept _ _ c.args.contra.now _ _ e.answer e.after e.law shares
+
+pub fill_and_show-fills-requires-clause-filled : goal.fill_and_show-fills-requires-clause-filled
+fill_and_show-fills-requires-clause-filled g c =
+    let a = c.args.auction.now in
+    let e = c.in_ok-items.ensures in
+    let stop : SFits w32 a.row.stop = search rules in
+    close_filled (g.S.ShareRule.awards c.args.rule.now) a.row a.kept _ _ c.args.contra.now _ _ e.answer e.after e.law e.turns stop
+
+pub returns-clause-law : goal.returns-clause-law
+returns-clause-law g c =
+    let laws = g.met.S.ShareRule in
+    let shares = shares_by g.S.ShareRule.awards laws.each laws.within laws.spent c.args.rule.now in
+    let a = c.args.auction.now in
+    let e = c.in_ok-items.ensures in
     let f = c.fill_and_show-fills.ensures in
-    record {
-      answer = close_answer awards shares a ok most os rs c.args.contra.now c.contra_items.new.list c.in_ok-items.items e.answer e.after e.law e.turns stop c.args.fills.now c.fill_and_show-fills.new.fills c.fill_and_show-fills.result c.fill_and_show-fills.new.items long f.count f.items f.fills;
-      contra = close_contra awards shares a ok most os rs c.args.contra.now c.contra_items.new.list c.in_ok-items.items e.answer e.after e.law e.turns stop c.args.fills.now c.fill_and_show-fills.new.fills c.fill_and_show-fills.result c.fill_and_show-fills.new.items long f.count f.items f.fills;
-      fills = close_fills awards shares a ok most os rs c.args.contra.now c.contra_items.new.list c.in_ok-items.items e.answer e.after e.law e.turns stop c.args.fills.now c.fill_and_show-fills.new.fills c.fill_and_show-fills.result c.fill_and_show-fills.new.items long f.count f.items f.fills;
-      law = close_law awards shares a ok most os rs c.args.contra.now c.contra_items.new.list c.in_ok-items.items e.answer e.after e.law e.turns stop c.args.fills.now c.fill_and_show-fills.new.fills c.fill_and_show-fills.result c.fill_and_show-fills.new.items long f.count f.items f.fills;
-    }
+    close_law (g.S.ShareRule.awards c.args.rule.now) a.row a.kept _ _ c.args.contra.now _ _ e.answer e.after e.law shares _ _ c.args.fills.now _ _ f.items f.count f.fills

@@ -1,9 +1,0 @@
-use Rattle.std.proofs.Common.{◌≡◌, ◌-◌}
-use Rattle.market.specs.Bands.{lowest, width_of, would_move}
-use Rattle.market.proofs.band.held.lowest_moved.Given as goal
-
-abbrev pub invariant-loop-component : goal.invariant-loop-component
-invariant-loop-component g l =
-    (l.market ≡ l.initial.market)
-    × (lowest (would_move g.M.Market.top g.M.Market.fault g.M.Market.after (width_of l.width) (g.M.Market.model l.initial.market) l.notice) l.component (17 - l.component)
-    ≡ lowest (would_move g.M.Market.top g.M.Market.fault g.M.Market.after (width_of l.width) (g.M.Market.model l.initial.market) l.notice) 1 16)
