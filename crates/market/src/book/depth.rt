@@ -70,8 +70,8 @@ fn best_among(place: Place, best: Option<Top>, orders: &[BookOrder]) -> Option<T
         .fold(best, |best, order| order.join(place, best))
 }
 
-// The place of the order with this number, searched for: a map would want memory at each notice.
-fn place_of(number: u32, orders: &[BookOrder]) -> Option<usize>
+// The index of the order with this number, searched for: a map would want memory at each notice.
+fn index_of(number: u32, orders: &[BookOrder]) -> Option<usize>
     ensures { result ≡ position (λ o. o.number == number) orders.now }
 {
     orders.iter().position(|order| order.number == number)
@@ -109,7 +109,7 @@ fn added(orders: &[BookOrder], number: u32, quoted: &Quoted) -> Result<BookOrder
     if orders.len() >= 64 {
         return Err(Cause::BookFull.at(component));
     }
-    if place_of(number, orders).is_some() {
+    if index_of(number, orders).is_some() {
         return Err(Cause::OrderNumber.at(component));
     }
     Ok(BookOrder {
@@ -129,7 +129,7 @@ fn withdrawn(orders: &[BookOrder], number: u32) -> Result<usize, Fault>
     if !is_number(number) {
         return Err(Cause::OutOfRange.nowhere());
     }
-    place_of(number, orders).ok_or(Cause::OrderNumber.nowhere())
+    index_of(number, orders).ok_or(Cause::OrderNumber.nowhere())
 }
 
 impl Change {
