@@ -80,7 +80,7 @@ fn lexed_words(heap: Global, line: &[u8]) -> Result<Vec<Word>, Unread<'_>>
     let text = &line[..uncommented_len(line)];
     let mut rest = text;
     let mut words = Vec::new(heap);
-    // No `for`: the iterator would be a type that holds `rest` and nothing more.
+    // No `for`: what is left tells where an unknown spelling stands, and an iterator would hide it.
     while let Some((spelling, after)) = next_spelling(rest) {
         let Some(word) = word_of(spelling) else {
             let at = text.len() - after.len() - spelling.len();

@@ -102,7 +102,8 @@ fn share_kind(words: &[Word]) -> Option<ShareKind>
     )
 }
 
-// Not one with the keyword's: a pattern names its case, and says it shorter than a parameter would.
+// Apart from `only_keyword`: a pattern says which kind of word is meant, and a closure in its place
+// would be longer than the pattern.
 fn only_number(words: &[Word]) -> Option<u32>
     ensures { result ≡ only_number words.now }
 {
