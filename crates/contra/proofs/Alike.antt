@@ -1,5 +1,5 @@
 -- Items of one kind, and the first of each kind.
-use Rattle.std.proofs.Common.{◌≡◌, ◌≤◌, Bool, true, false, cond, ◌||◌, List, [], ◌∷◌, ◌++◌, length, sym, refl, ◌∙◌, arith}
+use Rattle.std.proofs.Common.{◌≡◌, ◌≤◌, Bool, true, false, ◌||◌, List, [], ◌∷◌, ◌++◌, length, sym, ◌∙◌, arith}
 use Rattle.std.specs.Cmp.{IsEquivalence}
 use Rattle.std.specs.List.{AllByRecursion}
 use Rattle.std.proofs.lemmas.List.Elements.{All-from_recursion}
@@ -30,10 +30,6 @@ module _ {X : Type 0} (p : X → Bool) where
   passes_none xs a = list_any_none p xs (All-from_recursion _ xs a)
 
 module _ {X : Type 0} (same : X → X → Bool) where
-  pub firsts_step : (seen : List X) (x : X) (xs : List X) → firsts same seen (x ∷ xs) ≡ cond (some (same x) seen) (firsts same (seen ++ x ∷ []) xs) (x ∷ firsts same (seen ++ x ∷ []) xs)
-  unfolding firsts
-  firsts_step seen x xs = refl
-
   pub firsts_few : (xs seen : List X) → length (firsts same seen xs) ≤ length xs
   unfolding firsts
   firsts_few [] seen = omega arith

@@ -249,7 +249,7 @@ fn one_leg(words: &[Word]) -> Option<Leg>
     })
 }
 
-// The legs that stand between commas.
+// The legs that stand between commas. The heap is passed wherever memory may be wanted.
 fn legs(heap: Global, words: &[Word]) -> Result<Option<Vec<Leg>>, AllocError>
     ensures { IfOk result (λ o. option_map vec_items o ≡ legs_of words.now) }
 {
