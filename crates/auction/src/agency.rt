@@ -36,7 +36,8 @@ pub fn as_buyer(side: Side, price: i32) -> i64
     }
 }
 
-// Whether one price is below another, as a buyer sees them, or at it where they need not be apart.
+// Whether one price is below another, as a buyer sees them, or at it where they need not be apart. A
+// flag, for whether they must be apart is a fact of the quotes.
 fn in_order(low: i64, high: i64, apart: bool) -> bool
     ensures { result ≡ (if apart then int_lt low high else int_le low high) }
 {

@@ -59,7 +59,8 @@ fn source(rt: &HostRuntime) -> anyhow::Result<Vec<u8>> {
     Ok(fs::read(rt, path)?)
 }
 
-// Tells on standard error what cannot be read.
+// Tells on standard error what cannot be read. The runtime is no part of a line: it is lent wherever
+// something is read or printed.
 fn complain(rt: &HostRuntime, line: Line<'_>) -> anyhow::Result<()> {
     let number = line.number;
     let what = String::from_utf8_lossy(rt.alloc(), line.bytes)?;

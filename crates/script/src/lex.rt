@@ -24,7 +24,8 @@ impl<'a, T: Drop> From<AllocFailed<T>> for Unread<'a> {
     }
 }
 
-// How many bytes stand before the comment of a line, if it has one.
+// How many bytes stand before the comment of a line, if it has one. This and the next two are one
+// expression of the library each, and a function that took the test would be as long.
 fn uncommented_len(line: &[u8]) -> usize
     ensures value { result ≡ prefix_len before_comment line.now }
     ensures within { result ≤ length line.now }

@@ -82,6 +82,7 @@ fn only_keyword(words: &[Word]) -> Option<Keyword>
     }
 }
 
+// What is left here, and in the three like it, is the table of two words.
 fn market_kind(words: &[Word]) -> Option<MarketKind>
     ensures { result ≡ market_of words.now }
 {

@@ -3,7 +3,8 @@ ghost use Rattle.std.specs.Prelude.{◌≡◌, ℕ, ◌≤◌, ◌++◌, length,
 ghost use Rattle.share.specs.Turns.{Steps, awarded};
 
 // A step takes a size and what is left, and gives the award and what is left then. The awards are
-// written by place, for of a list whose `iter_mut` is zipped nothing is known after the loop.
+// written by place, for of a list whose `iter_mut` is zipped nothing is known after the loop. A place
+// for each size is asked: it holds of two lists, and is no fact of one value.
 pub(crate) fn award_in_turn<F: Fn(u32, u32) -> (u32, u32)>(
     sizes: &[u32],
     q: u32,

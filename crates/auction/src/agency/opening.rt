@@ -55,6 +55,7 @@ impl Agency {
         ensures capped { IfOk result (λ c. cap_fits (option_map (as_buyer self.side) c) (as_buyer self.side self.stop) ≡ true) }
     {
         self.met(quotes)?;
+        // No `map`: its closure would have to take any price, and a true price must fit.
         match self.cap(quotes) {
             Some(cap) => Ok(Some(true_price(self.side, cap))),
             None => Ok(None),

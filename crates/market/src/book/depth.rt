@@ -27,7 +27,8 @@ fn better(side: Side, a: &Top, b: &Top) -> bool
     }
 }
 
-// The better of two tops of one side; at one price, a customer's if either is.
+// The better of two tops of one side; at one price, a customer's if either is. Asked both ways of
+// `better`, which knows that the sides run opposite ways.
 fn joined(side: Side, best: &Top, top: &Top) -> Top
     ensures { result ≡ joined side best.now top.now }
 {
@@ -87,6 +88,7 @@ fn is_number(number: u32) -> bool
 #[derive(Clone, Copy)]
 enum Change {
     Added(BookOrder),
+    // the index, by which the table takes an order out
     Withdrawn(usize),
 }
 
