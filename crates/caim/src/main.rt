@@ -81,9 +81,9 @@ fn read_line(rt: &HostRuntime, line: Line<'_>) -> Result<Option<Statement>, Stop
     let words = match words(rt.alloc(), line.bytes) {
         Ok(words) => words,
         Err(Unread::Memory) => return Err(Stop::Failed(anyhow!("out of memory"))),
-        Err(Unread::Unknown { spelling, .. }) => {
+        Err(Unread::Unknown { start, end }) => {
             let unknown = Line {
-                bytes: spelling,
+                bytes: &line.bytes[start..end],
                 ..line
             };
             return Err(unreadable(rt, unknown));

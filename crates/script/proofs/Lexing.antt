@@ -54,13 +54,13 @@ module _ (text : List ℕ) (ws : List Word) (rest : List ℕ) (l : Left text ws 
     pub left_length : length text ≡ l.at + prefix_len gap rest + (length spelling + length after)
     left_length = omega (arith, sym (length-drop (l.at + prefix_len gap rest) text) ∙ (ap length tail ∙ length-append spelling after), b.some)
 
-    pub no_word : (line : List ℕ) (n : ℕ) → text ≡ uncommented line → o ≡ None → n ≡ length text - length after - length spelling → FirstUnknown line n spelling
-    no_word line n t f g =
-        let same : n ≡ l.at + prefix_len gap rest = omega (arith, left_length) in
+    pub no_word : (line : List ℕ) (i j : ℕ) → text ≡ uncommented line → o ≡ None → j ≡ length text - length after → i ≡ j - length spelling → FirstUnknown line i j
+    no_word line i j t f g h =
+        let to : j ≡ l.at + prefix_len gap rest + length spelling = omega (arith, left_length) in
+        let from : i ≡ l.at + prefix_len gap rest = omega (arith, left_length) in
         let stops : lexed line ≡ Err here = ap (λ xs. read_at xs (spans 0 xs)) (sym t) ∙ sym (ap (λ p. prefixed ws (read_by p here (read_at text more))) (sym f) ∙ step) in
         record {
-          stops = stops ∙ ap (λ k. Err (spanned k (k + length spelling))) (sym same);
-          some = b.some;
-          within = omega (arith, left_length, same, ap length t, length-take-le (prefix_len before_comment line) line (prefix_len-le-length before_comment line), prefix_len-le-length before_comment line);
-          is = sym cut_out ∙ (ap (part here) t ∙ ap (λ k. part (spanned k (k + length spelling)) (uncommented line)) (sym same));
+          stops = stops ∙ (ap (λ k. Err (spanned k (l.at + prefix_len gap rest + length spelling))) (sym from) ∙ ap (λ k. Err (spanned i k)) (sym to));
+          some = omega (arith, b.some);
+          within = omega (arith, left_length, to, ap length t, length-take-le (prefix_len before_comment line) line (prefix_len-le-length before_comment line), prefix_len-le-length before_comment line);
         }

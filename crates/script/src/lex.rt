@@ -10,16 +10,16 @@ use std::alloc::{AllocFailed, Global};
 
 // Why a line has no words: want of memory, or the first spelling that is no word.
 #[derive(Clone, Copy)]
-pub enum Unread<'a> {
+pub enum Unread {
     Memory,
-    // the spelling, and the byte of the line at which it stands
-    Unknown { at: usize, spelling: &'a [u8] },
+    // the bytes of the line from a start to before an end: places, so that it outlives the line
+    Unknown { start: usize, end: usize },
 }
 
-impl<'a, T: Drop> From<AllocFailed<T>> for Unread<'a> {
+impl<T: Drop> From<AllocFailed<T>> for Unread {
     ghost from_gives = { λ _ r. r ≡ Memory };
 
-    fn from(_refused: AllocFailed<T>) -> Unread<'a> {
+    fn from(_refused: AllocFailed<T>) -> Unread {
         Unread::Memory
     }
 }
@@ -75,7 +75,7 @@ fn next_spelling(text: &[u8]) -> Option<(&[u8], &[u8])>
     Some(text.split_at(spelling_len(text)))
 }
 
-fn lexed_words(heap: Global, line: &[u8]) -> Result<Vec<Word>, Unread<'_>>
+fn lexed_words(heap: Global, line: &[u8]) -> Result<Vec<Word>, Unread>
     ensures { Reads line.now result }
 {
     let text = &line[..uncommented_len(line)];
@@ -84,8 +84,9 @@ fn lexed_words(heap: Global, line: &[u8]) -> Result<Vec<Word>, Unread<'_>>
     // No `for`: what is left tells where an unknown spelling stands, and an iterator would hide it.
     while let Some((spelling, after)) = next_spelling(rest) {
         let Some(word) = word_of(spelling) else {
-            let at = text.len() - after.len() - spelling.len();
-            return Err(Unread::Unknown { at, spelling });
+            let end = text.len() - after.len();
+            let start = end - spelling.len();
+            return Err(Unread::Unknown { start, end });
         };
         words.push(word)?;
         rest = after;
@@ -94,7 +95,7 @@ fn lexed_words(heap: Global, line: &[u8]) -> Result<Vec<Word>, Unread<'_>>
 }
 
 // The words of a line, or why it has none. Words that are written one after another are read back.
-pub fn words(heap: Global, line: &[u8]) -> Result<Vec<Word>, Unread<'_>>
+pub fn words(heap: Global, line: &[u8]) -> Result<Vec<Word>, Unread>
     ensures value { Reads line.now result }
     ensures inverse { (ws : List Word) → AllFit ws → line.now ≡ written_all ws → Gives ws result }
 {
