@@ -4,11 +4,12 @@ use lib.Signed.{lt_z}
 use Rattle.std.proofs.ByRecursion.{all-has, All-weaker, kept_by_passes}
 use Rattle.std.proofs.lemmas.Int.{ints}
 use Rattle.std.proofs.lemmas.Bool.{both_ways, cases_Bool, cases_lt, cond-false, cond-true, le-ltb, lt-ltb}
+use Rattle.std.proofs.lemmas.List.Folds.{list_any-append}
 use Rattle.std.specs.List.{flat_map}
 use Rattle.ranked.specs.declared.contra.ContraItem.{ContraItem}
 use Rattle.ranked.specs.declared.fill.Fill.{Fill}
 use Rattle.contra.specs.Kinds.{same_price, some}
-use Rattle.contra.proofs.Alike.{none_passes, passes_none, price_itself, some_append}
+use Rattle.contra.proofs.Alike.{none_passes, passes_none, prices}
 use Rattle.allocation.specs.Deals.{Deal}
 use Rattle.allocation.specs.Fillings.{level_fills}
 use Rattle.allocation.specs.Laws.{Beyond}
@@ -33,7 +34,7 @@ module _ (awards : List ℕ → ℕ → List ℕ) (d : Deal) (items : List Contr
       let here : List ContraItem = items_at b.level items in
       passes_none (above price) _ (level_all _ d (below_at awards d items b left)
       (parts_all _ awards here _ 0 (All-weaker _ _ (λ x e n _. at_most price b.level x.level h e) here (kept_by_passes (at_level b.level) items)))
-      (λ _. at_most price b.level b.level h (price_itself b.level)))
+      (λ _. at_most price b.level b.level h (prices.refl b.level)))
 
   pub stop_low : (left : ℕ) → d.stop ≤ℤ price → some (above price) (level_fills d (stop_at awards d items left)) ≡ false
   unfolding above
@@ -41,7 +42,7 @@ module _ (awards : List ℕ → ℕ → List ℕ) (d : Deal) (items : List Contr
       let here : List ContraItem = items_at d.stop items in
       passes_none (above price) _ (level_all _ d (stop_at awards d items left)
       (parts_all _ awards here _ _ (All-weaker _ _ (λ x e n _. at_most price d.stop x.level h e) here (kept_by_passes (at_level d.stop) items)))
-      (λ _. at_most price d.stop d.stop h (price_itself d.stop)))
+      (λ _. at_most price d.stop d.stop h (prices.refl d.stop)))
 
   -- no level is worked where nothing remains
   over : (bs : List ContraItem) (left : ℕ) → left ≤ 0 → levels_from awards d items bs left ≡ []
@@ -66,7 +67,8 @@ module _ (awards : List ℕ → ℕ → List ℕ) (d : Deal) (items : List Contr
 
   -- fills above the price lie behind a level that is at or below it
   pub behind : (l : Level) (ls : List Level) → some (above price) (level_fills d l) ≡ false → some (above price) (flat_map (level_fills d) (l ∷ ls)) ≡ true → some (above price) (flat_map (level_fills d) ls) ≡ true
-  behind l ls e f = let g = some_append (above price) (level_fills d l) (flat_map (level_fills d) ls) in grind arith
+  unfolding some
+  behind l ls e f = let g = list_any-append (above price) (level_fills d l) (flat_map (level_fills d) ls) in grind arith
 
   -- some fill lies above the price
   pub some_beyond : (fs : List Fill) → Beyond price fs → some (above price) fs ≡ true

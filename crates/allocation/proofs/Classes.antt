@@ -1,12 +1,14 @@
 -- Kinds split a list: what is taken once for each kind is taken once for each element.
 use Rattle.std.proofs.Common.{◌≡◌, ℕ, Bool, true, cond, List, [], ◌∷◌, ◌++◌, filter, ap, ◌∙◌, arith}
 use Rattle.std.proofs.ByRecursion.{All-weaker}
+use Rattle.std.proofs.lemmas.Map.Steps.{list_any_congr}
+use Rattle.std.specs.Cmp.{IsEquivalence}
 use Rattle.contra.specs.Kinds.{firsts, some}
-use Rattle.contra.proofs.Alike.{some_itself, some_like, some_push}
+use Rattle.contra.proofs.Alike.{some_itself, some_push}
 use Rattle.allocation.specs.Parts.{total}
 use Rattle.allocation.proofs.Sums.{total_kept, total_like, total_same, total_swap}
 
-module _ {X : Type 0} (same : X → X → Bool) (itself : (x : X) → same x x ≡ true) (turned : (x y : X) → same x y ≡ same y x) (passed : (x y z : X) → same x y ≡ true → same y z ≡ true → same x z ≡ true) where
+module _ {X : Type 0} (same : X → X → Bool) (laws : IsEquivalence same) where
   -- of the first ones of each kind, one at most is of the kind of z
   pub once : (n : ℕ) (z : X) (xs seen : List X) → total (λ y. cond (same y z) n 0) (firsts same seen xs) ≡ cond (some (same z) seen) 0 (cond (some (same z) xs) n 0)
   unfolding total firsts some
@@ -14,8 +16,8 @@ module _ {X : Type 0} (same : X → X → Bool) (itself : (x : X) → same x x �
   once n z (x ∷ xs) seen =
       let e = once n z xs (seen ++ x ∷ []) in
       let f = some_push (same z) seen x in
-      let g = some_like same turned passed z x seen in
-      let h = turned x z in
+      let g = list_any_congr laws z x seen in
+      let h = laws.symm x z in
       grind arith
 
   -- each element is taken once
@@ -24,7 +26,7 @@ module _ {X : Type 0} (same : X → X → Bool) (itself : (x : X) → same x x �
   split w xs =
       total_like _ (λ y. total (λ z. cond (same y z) (w z) 0) xs) (λ y. total_kept w (same y) xs) (firsts same [] xs)
       ∙ (total_swap (λ y z. cond (same y z) (w z) 0) (firsts same [] xs) xs
-      ∙ total_same _ w xs (All-weaker _ _ (λ z e. once (w z) z xs [] ∙ ap (λ b. cond b (w z) 0) e) xs (some_itself same itself xs)))
+      ∙ total_same _ w xs (All-weaker _ _ (λ z e. once (w z) z xs [] ∙ ap (λ b. cond b (w z) 0) e) xs (some_itself same laws.refl xs)))
 
   -- a filter that passes whole kinds takes their elements
   pub once_kept : (q : X → Bool) → ((x y : X) → same x y ≡ true → q x ≡ q y) → (n : ℕ) (z : X) (ys : List X) → total (λ y. cond (same y z) n 0) (filter q ys) ≡ cond (q z) (total (λ y. cond (same y z) n 0) ys) 0
@@ -40,4 +42,4 @@ module _ {X : Type 0} (same : X → X → Bool) (itself : (x : X) → same x x �
   split_kept q whole w xs =
       total_like _ (λ y. total (λ z. cond (same y z) (w z) 0) xs) (λ y. total_kept w (same y) xs) (filter q (firsts same [] xs))
       ∙ (total_swap (λ y z. cond (same y z) (w z) 0) (filter q (firsts same [] xs)) xs
-      ∙ total_same _ _ xs (All-weaker _ _ (λ z e. once_kept q whole (w z) z (firsts same [] xs) ∙ ap (λ n. cond (q z) n 0) (once (w z) z xs [] ∙ ap (λ b. cond b (w z) 0) e)) xs (some_itself same itself xs)))
+      ∙ total_same _ _ xs (All-weaker _ _ (λ z e. once_kept q whole (w z) z (firsts same [] xs) ∙ ap (λ n. cond (q z) n 0) (once (w z) z xs [] ∙ ap (λ b. cond b (w z) 0) e)) xs (some_itself same laws.refl xs)))

@@ -2,7 +2,7 @@
 use Rattle.std.proofs.Common.{◌≡◌, ℕ, ◌-◌, ◌≤◌, min, List, [], ◌∷◌, refl, arith}
 use Rattle.ranked.specs.declared.contra.ContraItem.{ContraItem}
 use Rattle.contra.specs.Kinds.{same_user}
-use Rattle.contra.proofs.Alike.{user_itself, user_passed, user_turned}
+use Rattle.contra.proofs.Alike.{users}
 use Rattle.share.specs.Awards as share
 use Rattle.allocation.specs.Laws.{Shares}
 use Rattle.allocation.specs.Parts.{Part, after_customers, come, counts, customers_in, customers_of, dealt, given_in, group_of, group_sizes, is_customer, leaders_in, others_in, parts_in, shared, total}
@@ -31,7 +31,7 @@ shared_given_le awards s others q =
 
 -- the groups hold each item once
 pub groups_split : (w : ContraItem → ℕ) (others : List ContraItem) → total (λ x. total w (group_of others x)) (leaders_in others) ≡ total w others
-groups_split w others = split same_user user_itself user_turned user_passed w others
+groups_split w others = split same_user users w others
 
 -- each item has one part: what is taken from the items of parts is taken from the items
 module _ (w : ContraItem → ℕ) where

@@ -6,7 +6,7 @@ use Rattle.std.proofs.lemmas.Bool.Decides.{nat_tests}
 use Rattle.std.specs.List.{AllByRecursion}
 use Rattle.ranked.specs.declared.contra.ContraItem.{ContraItem}
 use Rattle.contra.specs.Kinds.{same_price}
-use Rattle.contra.proofs.Alike.{price_itself}
+use Rattle.contra.proofs.Alike.{prices}
 use Rattle.allocation.specs.Deals.{Deal}
 use Rattle.allocation.specs.Laws.{Shares}
 use Rattle.allocation.specs.Levels.{at_level, guarantee_in, items_at, levels_from, matched_in, stop_parts}
@@ -42,7 +42,7 @@ module _ (awards : List ℕ → ℕ → List ℕ) (d : Deal) (items : List Contr
         let here : List ContraItem = items_at d.stop items in
         let e = parts_within (on_item (own_stop d)) awards here left (guarantee_in d here left) in
         let f = no_own d.stop in
-        let g = price_itself d.stop in
+        let g = prices.refl d.stop in
         grind arith
 
     pub own_sum : (bs : List ContraItem) (left : ℕ) → AllByRecursion (λ b. b.level <ℤ d.stop) bs → total (level_sum (own_stop d)) (levels_from awards d items bs left) ≡ reach awards d items bs left - total given_in (stop_parts awards d (items_at d.stop items) (reach awards d items bs left))

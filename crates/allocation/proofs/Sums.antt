@@ -47,11 +47,6 @@ module _ {X : Type 0} (f g : X → ℕ) where
   total_same [] a = refl
   total_same (x ∷ xs) a = omega (arith, a.0, total_same xs a.1)
 
-  pub total_le : (xs : List X) → AllByRecursion (λ x. f x ≤ g x) xs → total f xs ≤ total g xs
-  unfolding total
-  total_le [] a = omega arith
-  total_le (x ∷ xs) a = omega (arith, a.0, total_le xs a.1)
-
   pub total_like : ((x : X) → f x ≡ g x) → (xs : List X) → total f xs ≡ total g xs
   unfolding total
   total_like e [] = refl

@@ -6,7 +6,7 @@ use Rattle.std.proofs.lemmas.Int.{ints}
 use Rattle.std.specs.List.{AllByRecursion}
 use Rattle.ranked.specs.declared.contra.ContraItem.{ContraItem}
 use Rattle.contra.specs.Kinds.{firsts, same_level, same_price}
-use Rattle.contra.proofs.Alike.{firsts_few, level_itself, level_passed, level_turned}
+use Rattle.contra.proofs.Alike.{firsts_few, levels}
 use Rattle.allocation.specs.Deals.{Deal}
 use Rattle.allocation.specs.Levels.{Level, beginnings, below_in, below_stop, items_at, levels_from, spent_at, stop_in}
 use Rattle.allocation.specs.Parts.{total}
@@ -43,7 +43,7 @@ module _ (d : Deal) (items : List ContraItem) where
   levels_split : (w : ContraItem → ℕ) → by_level w ≡ total (share w) items
   levels_split w =
       omega
-      (arith, split_kept same_level level_itself level_turned level_passed (below_stop d) below_kinds w items, total_kept w (λ z. same_price d.stop z.level) items, total_sum (λ z. cond (below_stop d z) (w z) 0) (λ z. cond (same_price d.stop z.level) (w z) 0) items)
+      (arith, split_kept same_level levels (below_stop d) below_kinds w items, total_kept w (λ z. same_price d.stop z.level) items, total_sum (λ z. cond (below_stop d z) (w z) 0) (λ z. cond (same_price d.stop z.level) (w z) 0) items)
 
   share_most : (n : ℕ) (a b : ℤ) → cond (lt_z a b) n 0 + cond (same_price b a) n 0 ≤ n
   share_most n a b = grind (arith, ints)

@@ -1,9 +1,11 @@
 -- A stop that meets the clauses is at or above the cap.
-use Rattle.std.proofs.Common.{◌≡◌, Bool, true, ℤ, ◌≤ℤ◌, Some, None, Ok, Option, refl, ap, ◌∙◌, arith, w32, w64, SFits, to_z, of_z}
+use Rattle.std.proofs.Common.{◌≡◌, Bool, true, ℤ, ◌≤ℤ◌, Some, None, Ok, Err, Option, refl, ap, ◌∙◌, arith, w32, w64, SFits, to_z, of_z}
 use lib.Signed.{le_z}
 use Rattle.std.proofs.lemmas.Int.{ints, to_z-of_z}
 use Rattle.std.proofs.lemmas.Bool.Decides.{nat_tests}
 use Rattle.std.specs.Option.{option_map}
+use Rattle.std.specs.Result.{result_err}
+use Rattle.terms.specs.declared.refusal.Clause.{Clause}
 use Rattle.terms.specs.declared.side.Side.{Side}
 use Rattle.terms.specs.declared.side.Side.TheVariants.{Buy, Sell}
 use Rattle.terms.specs.declared.synthetic.Synthetic.{Synthetic}
@@ -11,6 +13,19 @@ use Rattle.auction.specs.declared.agency.Agency.{Agency}
 use Rattle.auction.specs.Caps.{cap_fits, cap_of, greater, opening_of, raised, unless_failed}
 use Rattle.auction.specs.Orientation.{as_buyer, least, seen}
 use Rattle.auction.specs.Stops.{failed_clause, meets_bid, meets_orders}
+
+-- what the test of the clauses said
+pub unfailed : (f : Option Clause) (u : Unit {0}) → Ok u ≡ unless_failed f (tt {0}) → None ≡ f
+unfailed None u e = refl
+unfailed (Some k) u e = cc
+
+pub failed_first : {X : Type 0} (f : Option Clause) (k : Clause) (x : X) → Err k ≡ unless_failed {X = Unit {0}} f (tt {0}) → Err k ≡ unless_failed f x
+failed_first None k x e = cc
+failed_first (Some j) k x e = let h : k ≡ j = cc in ap (λ (c : Clause). Err c) h
+
+pub failed_is : (f : Option Clause) → result_err (unless_failed {X = Unit {0}} f (tt {0})) ≡ f
+failed_is None = refl
+failed_is (Some k) = refl
 
 bid_fits : (stop : ℤ) (bid : Option Synthetic) → meets_bid stop bid ≡ true → cap_fits (option_map raised bid) stop ≡ true
 bid_fits stop None e = refl

@@ -59,16 +59,18 @@ fn source(rt: &HostRuntime) -> anyhow::Result<Vec<u8>> {
     Ok(fs::read(rt, path)?)
 }
 
-// Tells on standard error what cannot be read.
-fn complain(rt: &HostRuntime, line: usize, bytes: &[u8]) -> anyhow::Result<()> {
-    let what = String::from_utf8_lossy(rt.alloc(), bytes)?;
-    eprintln!(rt; "line {line}: cannot read {what:?}")?;
+// Tells on standard error what cannot be read. The runtime is no part of a line: it is lent wherever
+// something is read or printed.
+fn complain(rt: &HostRuntime, line: Line<'_>) -> anyhow::Result<()> {
+    let number = line.number;
+    let what = String::from_utf8_lossy(rt.alloc(), line.bytes)?;
+    eprintln!(rt; "line {number}: cannot read {what:?}")?;
     Ok(())
 }
 
 // Stops at what cannot be read of a line.
-fn unreadable(rt: &HostRuntime, line: usize, bytes: &[u8]) -> Stop {
-    match complain(rt, line, bytes) {
+fn unreadable(rt: &HostRuntime, line: Line<'_>) -> Stop {
+    match complain(rt, line) {
         Ok(()) => Stop::Unreadable,
         Err(error) => Stop::Failed(error),
     }
@@ -79,8 +81,12 @@ fn read_line(rt: &HostRuntime, line: Line<'_>) -> Result<Option<Statement>, Stop
     let words = match words(rt.alloc(), line.bytes) {
         Ok(words) => words,
         Err(Unread::Memory) => return Err(Stop::Failed(anyhow!("out of memory"))),
-        Err(Unread::Unknown { spelling, .. }) => {
-            return Err(unreadable(rt, line.number, spelling));
+        Err(Unread::Unknown { start, end }) => {
+            let unknown = Line {
+                bytes: &line.bytes[start..end],
+                ..line
+            };
+            return Err(unreadable(rt, unknown));
         }
     };
     if words.is_empty() {
@@ -88,7 +94,7 @@ fn read_line(rt: &HostRuntime, line: Line<'_>) -> Result<Option<Statement>, Stop
     }
     match statement_of(rt.alloc(), &words)? {
         Some(statement) => Ok(Some(statement)),
-        None => Err(unreadable(rt, line.number, line.bytes)),
+        None => Err(unreadable(rt, line)),
     }
 }
 
@@ -117,7 +123,7 @@ where
             continue;
         };
         let Some(answer) = respond(&mut session, &statement) else {
-            return Err(unreadable(rt, line.number, line.bytes));
+            return Err(unreadable(rt, line));
         };
         print_answer(rt, line, &statement, &answer)?;
     }
@@ -151,13 +157,13 @@ fn headings<'a>(
     mut lines: Lines<'a>,
 ) -> Result<Lines<'a>, Stop> {
     let mut calls = lines;
-    // No `for`: the lines from a call on are handed on.
+    // No `for`: the lines from a call on are handed on, and beside a `for` a copy would be stepped too.
     while let Some(line) = lines.next() {
         if let Some(statement) = read_line(rt, line)? {
             match setup.heading(&statement) {
                 Ok(()) => {}
                 Err(NotTaken::Call) => return Ok(calls),
-                Err(NotTaken::Again) => return Err(unreadable(rt, line.number, line.bytes)),
+                Err(NotTaken::Again) => return Err(unreadable(rt, line)),
                 Err(NotTaken::Refused(refusal)) => {
                     print_answer(rt, line, &statement, &Err(refusal))?;
                     return Err(Stop::Refused);

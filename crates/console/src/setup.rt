@@ -10,7 +10,7 @@ use script::line::{MarketKind, ShareKind, Statement};
 use terms::refusal::Refusal;
 
 // What was stated so far.
-#[derive(Clone, Copy)]
+#[derive(Clone, Copy, Default)]
 pub struct Setup {
     pub market: Option<MarketKind>,
     pub band: Option<Width>,
@@ -50,11 +50,7 @@ impl Setup {
     pub fn new() -> Setup
         ensures { result ≡ unstated }
     {
-        Setup {
-            market: None,
-            band: None,
-            share: None,
-        }
+        Setup::default()
     }
 
     // Takes a heading. Nothing changes unless it is taken.

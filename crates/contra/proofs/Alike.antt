@@ -1,11 +1,13 @@
 -- Items of one kind, and the first of each kind.
-use Rattle.std.proofs.Common.{◌≡◌, ◌≤◌, Bool, true, false, cond, ◌||◌, List, [], ◌∷◌, ◌++◌, length, ℤ, sym, refl, ◌∙◌, arith}
+use Rattle.std.proofs.Common.{◌≡◌, ◌≤◌, Bool, true, false, ◌||◌, List, [], ◌∷◌, ◌++◌, length, sym, ◌∙◌, arith}
+use Rattle.std.specs.Cmp.{IsEquivalence}
 use Rattle.std.specs.List.{AllByRecursion}
+use Rattle.std.proofs.lemmas.List.Elements.{All-from_recursion}
+use Rattle.std.proofs.lemmas.List.Folds.{list_any_none, list_any-append}
 use Rattle.std.proofs.ByRecursion.{All-weaker}
 use Rattle.std.proofs.lemmas.Int.{ints}
-use Rattle.std.proofs.lemmas.Bool.{cond_both, eq-eqb, or_left, or_parts, or_right}
+use Rattle.std.proofs.lemmas.Bool.{cond_both, or_left, or_parts, or_right}
 use Rattle.std.proofs.lemmas.Bool.Decides.{nat_tests}
-use Rattle.ranked.specs.declared.contra.ContraItem.{ContraItem}
 use Rattle.contra.specs.Kinds.{firsts, same_level, same_price, same_user, some}
 
 -- two facts of each element make a third
@@ -14,23 +16,9 @@ all_both P Q R h [] a b = tt
 all_both P Q R h (x ∷ xs) a b = (h x a.0 b.0, all_both P Q R h xs a.1 b.1)
 
 module _ {X : Type 0} (p : X → Bool) where
-  pub some_none : some p [] ≡ false
-  unfolding some
-  some_none = refl
-
-  pub some_step : (x : X) (xs : List X) → some p (x ∷ xs) ≡ p x || some p xs
-  unfolding some
-  some_step x xs = refl
-
-  pub some_append : (xs ys : List X) → some p (xs ++ ys) ≡ some p xs || some p ys
-  unfolding some
-  some_append [] ys = refl
-  some_append (x ∷ xs) ys = let e = some_append xs ys in grind arith
-
   pub some_push : (xs : List X) (x : X) → some p (xs ++ x ∷ []) ≡ some p xs || p x
   unfolding some
-  some_push [] x = grind arith
-  some_push (y ∷ ys) x = let e = some_push ys x in grind arith
+  some_push xs x = let e = list_any-append p xs (x ∷ []) in grind arith
 
   pub none_passes : (xs : List X) → some p xs ≡ false → AllByRecursion (λ x. p x ≡ false) xs
   unfolding some
@@ -39,14 +27,9 @@ module _ {X : Type 0} (p : X → Bool) where
 
   pub passes_none : (xs : List X) → AllByRecursion (λ x. p x ≡ false) xs → some p xs ≡ false
   unfolding some
-  passes_none [] a = refl
-  passes_none (x ∷ xs) a = let e = a.0 in let f = passes_none xs a.1 in grind arith
+  passes_none xs a = list_any_none p xs (All-from_recursion _ xs a)
 
 module _ {X : Type 0} (same : X → X → Bool) where
-  pub firsts_step : (seen : List X) (x : X) (xs : List X) → firsts same seen (x ∷ xs) ≡ cond (some (same x) seen) (firsts same (seen ++ x ∷ []) xs) (x ∷ firsts same (seen ++ x ∷ []) xs)
-  unfolding firsts
-  firsts_step seen x xs = refl
-
   pub firsts_few : (xs seen : List X) → length (firsts same seen xs) ≤ length xs
   unfolding firsts
   firsts_few [] seen = omega arith
@@ -89,42 +72,24 @@ module _ {X : Type 0} (same : X → X → Bool) where
   some_itself itself [] = tt
   some_itself itself (x ∷ xs) = (or_left _ _ (itself x), All-weaker _ _ (λ z e. or_right (same z x) _ e) xs (some_itself itself xs))
 
-  module _ (turned : (x y : X) → same x y ≡ same y x) (passed : (x y z : X) → same x y ≡ true → same y z ≡ true → same x z ≡ true) where
-    pub same_like : (x y z : X) → same x y ≡ true → same x z ≡ same y z
-    same_like x y z e =
-        let a = turned x y in
-        let b = passed x y z e in
-        let c = passed y x z in
-        grind arith
+-- users part items into kinds, and so do levels
+pub users : IsEquivalence same_user
+users = record {
+  refl = λ x. grind (arith, nat_tests);
+  symm = λ x y. grind (arith, nat_tests);
+  congr = λ x y z e. grind (arith, nat_tests);
+}
 
-    pub some_like : (x y : X) (xs : List X) → same x y ≡ true → some (same x) xs ≡ some (same y) xs
-    unfolding some
-    some_like x y [] e = refl
-    some_like x y (z ∷ zs) e = let f = some_like x y zs e in let g = same_like x y z e in grind arith
+pub prices : IsEquivalence same_price
+prices = record {
+  refl = λ a. grind (arith, ints);
+  symm = λ a b. grind (arith, ints);
+  congr = λ a b c e. grind (arith, ints);
+}
 
-pub user_itself : (x : ContraItem) → same_user x x ≡ true
-user_itself x = eq-eqb x.user x.user refl
-
-pub user_turned : (x y : ContraItem) → same_user x y ≡ same_user y x
-user_turned x y = grind (arith, nat_tests)
-
-pub user_passed : (x y z : ContraItem) → same_user x y ≡ true → same_user y z ≡ true → same_user x z ≡ true
-user_passed x y z e f = grind (arith, nat_tests)
-
-pub price_itself : (a : ℤ) → same_price a a ≡ true
-price_itself a = grind (arith, ints)
-
-pub price_turned : (a b : ℤ) → same_price a b ≡ same_price b a
-price_turned a b = grind (arith, ints)
-
-pub price_passed : (a b c : ℤ) → same_price a b ≡ true → same_price b c ≡ true → same_price a c ≡ true
-price_passed a b c e f = grind (arith, ints)
-
-pub level_itself : (x : ContraItem) → same_level x x ≡ true
-level_itself x = price_itself x.level
-
-pub level_turned : (x y : ContraItem) → same_level x y ≡ same_level y x
-level_turned x y = price_turned x.level y.level
-
-pub level_passed : (x y z : ContraItem) → same_level x y ≡ true → same_level y z ≡ true → same_level x z ≡ true
-level_passed x y z e f = price_passed x.level y.level z.level e f
+pub levels : IsEquivalence same_level
+levels = record {
+  refl = λ x. prices.refl x.level;
+  symm = λ x y. prices.symm x.level y.level;
+  congr = λ x y z e. prices.congr x.level y.level z.level e;
+}

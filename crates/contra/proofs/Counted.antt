@@ -14,7 +14,7 @@ use Rattle.ranked.proofs.Placement.{folded_order, folded_ranking, folded_whole}
 use Rattle.ranked.specs.Contras.{contra_before}
 use Rattle.ranked.specs.Ranks.{InOrder}
 use Rattle.ranked.specs.declared.contra.ContraItem.{ContraItem}
-use Rattle.contra.proofs.Alike.{level_passed, level_turned, user_passed, user_turned, same_like}
+use Rattle.contra.proofs.Alike.{levels, users}
 use Rattle.contra.proofs.Counting.{counted_length}
 use Rattle.contra.proofs.Gathering.{few_made}
 use Rattle.contra.specs.Counting.{brings, contra_of, count_of, counted_from, in_group, ranked_of, with_counted}
@@ -29,8 +29,8 @@ sum_by_like f g e (x ∷ xs) = omega (arith, e x, sum_by-cons f x xs, sum_by-con
 -- items of one group have the same group
 one_group : (x y : ContraItem) → same_user x y ≡ true → same_level x y ≡ true → (z : ContraItem) → brings y z ≡ brings x z
 one_group x y e f z =
-    let u = same_like same_user user_turned user_passed x y z e in
-    let l = same_like same_level level_turned level_passed x y z f in
+    let u = users.congr x y z e in
+    let l = levels.congr x y z f in
     ap (λ b. cond (not z.customer && b) z.counted 0) (sym (ap (λ b. b && same_level x z) u ∙ ap (λ b. same_user y z && b) l))
 
 module _ (size : ℕ) (x : ContraItem) where

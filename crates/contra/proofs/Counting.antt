@@ -1,30 +1,19 @@
 -- The steps of counting.
-use Rattle.std.proofs.Common.{◌≡◌, ℕ, ◌+◌, ◌-◌, ◌<◌, ◌≤◌, Bool, leb, List, [], ◌∷◌, ◌++◌, length, get_or, take, drop, fold, sum_by, sym, refl, ap, ◌∙◌, arith}
+use Rattle.std.proofs.Common.{◌≡◌, ℕ, ◌-◌, Bool, List, [], ◌∷◌, ◌++◌, length, take, drop, fold, sum_by, sym, refl, ap, ◌∙◌, arith}
 use Rattle.std.proofs.lemmas.List.Sorted.{length_permutation}
 use Rattle.ranked.proofs.Placement.{folded_whole}
 use Rattle.ranked.specs.Ranks.{placed}
-use Rattle.std.proofs.lemmas.Bool.{cond-true, le-leb}
 use Rattle.terms.specs.declared.auction.AuctionRow.{AuctionRow}
 use Rattle.terms.specs.declared.order.Order.{Order}
 use Rattle.terms.specs.declared.order.Response.{Response}
-use Rattle.terms.specs.Refusals.{Said, answered}
 use Rattle.ranked.specs.Contras.{contra_before}
-use Rattle.contra.specs.Answers.{contra_said}
 use Rattle.contra.specs.Named.{named}
-use Rattle.std.proofs.lemmas.List.{append_assoc, length-append, drop_at, append-nil, take_all, take_at}
-use Rattle.std.proofs.lemmas.List.Sums.{sum_by-cons, sum_by_more}
+use Rattle.std.proofs.lemmas.List.{append_assoc, drop_at, append-nil, take_at}
+use Rattle.std.proofs.lemmas.List.Sums.{sum_by-cons}
 use Rattle.ranked.specs.declared.contra.ContraItem.{ContraItem}
 use Rattle.contra.specs.Counting.{contra_of, ranked_of, count_of, counted_from, with_counted}
 
--- a size less what the first i of a list bring
-module _ {X : Type 0} (f : X → ℕ) (xs : List X) (size i room : ℕ) (inv : room ≡ size - sum_by f (take i xs)) where
-  pub room_on : (d : X) (v r : ℕ) → i < length xs → v ≡ f (get_or xs i d) → r ≡ room - v → r ≡ size - sum_by f (take (i + 1) xs)
-  room_on d v r h e k = omega (arith, sum_by_more f xs i d h)
-
-  pub room_all : length xs ≤ i → room ≡ size - sum_by f xs
-  room_all h = inv ∙ ap (λ l. size - sum_by f l) (take_all i xs h)
-
--- and less what each brings
+-- a size less what each brings
 pub room_left : {X : Type 0} (f : X → ℕ) (xs : List X) (size : ℕ) → fold (λ room x. room - f x) size xs ≡ size - sum_by f xs
 room_left f [] size = omega arith
 room_left f (x ∷ xs) size = omega (arith, room_left f xs (size - f x), sum_by-cons f x xs)
@@ -78,9 +67,3 @@ module _ (a : AuctionRow) (os os' : List Order) (rs rs' : List Response) (old ws
 
   pub items_count : n ≡ length (contra_of a os' rs')
   items_count = rw (← orders, ← responses, ← whole) (count_said contra_before (named a os rs) old ws ys size n after count)
-
-  pub items_said : {F : Type 0} (places : ℕ) → 128 ≤ places → ◌≡◌ {A = Said ℕ F} (answered n) (contra_said places (length (contra_of a os' rs')))
-  items_said places h = ap answered items_count ∙ sym (cond-true (leb 128 places) _ _ (le-leb 128 places h))
-
-pub items_within : (items old now : List ContraItem) {n : ℕ} → n ≡ length items → now ≡ items ++ drop (length items) old → n ≤ length now
-items_within items old now e f = omega (arith, ap length f, length-append items (drop (length items) old))

@@ -1,6 +1,6 @@
 -- Records put one after the other into an ordered list over given places.
 use Rattle.std.proofs.Common.{◌≡◌, ℕ, ◌+◌, ◌<◌, ◌≤◌, Bool, true, cond, List, [], ◌∷◌, ◌++◌, length, get_or, take, drop, IfSome, is_ok, Some, None, Ok, Err, fold, Option, Result, sym, refl, ap, ◌∙◌, subst, arith}
-use Rattle.std.proofs.lemmas.List.{append_assoc, append-nil, take_all, take_more, drop_at, drop-drop, length-append, length-drop, length-take-le, take-append-drop, take_at}
+use Rattle.std.proofs.lemmas.List.{append_assoc, append-nil, take_more, drop_at, drop-drop, length-append, length-drop, length-take-le, take-append-drop, take_at}
 use Rattle.std.proofs.lemmas.List.Sorted.{length_permutation}
 use Rattle.std.proofs.ByRecursion.{All-append}
 use Rattle.std.specs.List.{flat_map, AllByRecursion}
@@ -65,9 +65,6 @@ module _ {X : Type 0} (before : X → X → Bool) where
     pub put_some : zs ≡ cond (is_ok r) (placed before (take len places) x ++ drop (len + 1) places) places → zs ≡ gathered before places len (option_to_list item)
     put_some e = rw is (gathered_one before places zs len x (e ∙ ap (λ b. cond b (placed before (take len places) x ++ drop (len + 1) places) places) went))
 
-    pub put_some_len : (n : ℕ) → n ≡ cond (is_ok r) (len + 1) len → n ≡ len + length (option_to_list item)
-    put_some_len n e = rw is (e ∙ ap (λ b. cond b (len + 1) len) went)
-
     pub put_some_size : zs ≡ cond (is_ok r) (placed before (take len places) x ++ drop (len + 1) places) places → length zs ≡ length places
     put_some_size e = ap length (put_some e) ∙ (rw is (gathered_length before places len (x ∷ []) (omega arith)))
 
@@ -109,9 +106,6 @@ module _ {X Y : Type 0} (f : Y → Option X) where
       one None k = tt
       one (Some x) k = (k, tt)
 
-  pub made_all : (P : X → Type 0) (ys : List Y) (i : ℕ) → length ys ≤ i → AllByRecursion P (made (take i ys)) → AllByRecursion P (made ys)
-  made_all P ys i h a = let Q : List Y → Type 0 = λ l. AllByRecursion P (made l) in subst Q (take_all i ys h) a
-
   -- the first i entries were put into a list that had `start` records over `old`, which gives `len` over zs
   module _ (before : X → X → Bool) (ys : List Y) (old zs : List X) (start len i : ℕ) (after : zs ≡ gathered before old start (made (take i ys))) (grown : len ≡ start + length (made (take i ys))) (fits : start + length ys ≤ length old) where
     pub gather_room : i < length ys → length zs ≡ length old → len < length zs
@@ -131,12 +125,6 @@ module _ {X Y : Type 0} (f : Y → Option X) where
 
       pub gather_len : n ≡ len + length (option_to_list item) → n ≡ start + length (made (take (i + 1) ys))
       gather_len e = omega (arith, ap length items_on, length-append (made (take i ys)) (option_to_list item))
-
-    pub gather_all : length ys ≤ i → zs ≡ gathered before old start (made ys)
-    gather_all h = after ∙ ap (λ l. gathered before old start (made l)) (take_all i ys h)
-
-    pub gather_all_len : length ys ≤ i → len ≡ start + length (made ys)
-    gather_all_len h = grown ∙ ap (λ l. start + length (made l)) (take_all i ys h)
 
 -- two lists of records put into a list that was empty over `old`
 module _ {X : Type 0} (before : X → X → Bool) (old p₀ p₁ p₂ xs ys : List X) (n₀ n₁ n₂ n : ℕ) where

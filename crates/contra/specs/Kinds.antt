@@ -1,5 +1,6 @@
 -- Items of one kind: of one level, or of one user. The first of each kind stands for it.
-use Rattle.std.specs.Prelude.{Bool, false, cond, ◌&&◌, ◌||◌, List, [], ◌∷◌, ◌++◌, ℤ, ◌==◌, int_le}
+use Rattle.std.specs.Prelude.{Bool, cond, ◌&&◌, List, [], ◌∷◌, ◌++◌, ℤ, ◌==◌, int_le}
+use Rattle.std.specs.List.{list_any}
 use Rattle.ranked.specs.declared.contra.ContraItem.{ContraItem}
 
 abbrev pub same_price : ℤ → ℤ → Bool
@@ -13,8 +14,7 @@ same_user x y = x.user == y.user
 
 -- one of the list passes
 unfoldable pub some : {X : Type 0} → (X → Bool) → List X → Bool
-some p [] = false
-some p (x ∷ xs) = p x || some p xs
+some p xs = list_any p xs
 
 -- the first of each kind that is not among those seen before, in the order of the list
 unfoldable pub firsts : {X : Type 0} → (X → X → Bool) → List X → List X → List X

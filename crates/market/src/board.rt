@@ -12,7 +12,7 @@ pub enum BoardNotice {
 }
 
 // The two tops of a component.
-#[derive(Clone, Copy)]
+#[derive(Clone, Copy, Default)]
 struct Tops {
     bid: Option<Top>,
     offer: Option<Top>,

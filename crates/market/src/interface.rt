@@ -26,6 +26,8 @@ pub trait Market {
     // what an admitted notice leaves
     ghost after: { Model → Self.Notice → Model };
 
+    // A component and a side, in range or not: a value of both would be made for each question and
+    // taken apart at once.
     fn tell(&mut self, component: u32, side: Side) -> Option<Top>
         ensures value { result ≡ top (model self.old) component side }
         ensures same { self.new ≡ self.old };

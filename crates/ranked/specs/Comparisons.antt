@@ -38,10 +38,10 @@ module _ {X R : Type 0} {cmp : R → R → Ordering} (total : IsTotalOrder cmp) 
       cc
 
   -- both ways only where the ranks agree
-  pub agreed : (exact : (r s : R) → cmp r s ≡ Equal → r ≡ s) → (x y : X) → before x y ≡ true → before y x ≡ true → rank x ≡ rank y
+  pub agreed : (exact : (x y : X) → cmp (rank x) (rank y) ≡ Equal → rank x ≡ rank y) → (x y : X) → before x y ≡ true → before y x ≡ true → rank x ≡ rank y
   agreed exact x y e f =
       let t = total.antisymm (rank y) (rank x) in
-      exact (rank x) (rank y) (both_ways (cmp (rank x) (rank y)) (ap is_le (sym t) ∙ (sym (compares y x) ∙ f)) (sym (compares x y) ∙ e))
+      exact x y (both_ways (cmp (rank x) (rank y)) (ap is_le (sym t) ∙ (sym (compares y x) ∙ f)) (sym (compares x y) ∙ e))
 
   -- and always there
   pub level : (x y : X) → rank x ≡ rank y → before x y ≡ true

@@ -28,7 +28,7 @@ impl Ranked for ContraItem {
 
     ghost compares = { contra_compares };
 
-    ghost exact = { same_fields int_cmp (λ c d. bool_cmp d.0 c.0) nat_cmp prices_same customers_same numbers_same };
+    ghost exact = { λ x y. same_fields int_cmp (λ c d. bool_cmp d.0 c.0) nat_cmp prices_same customers_same numbers_same (contra_rank x) (contra_rank y) };
 
     fn rank(&self) -> (i32, Reverse<bool>, u32) {
         (self.level, Reverse(self.customer), self.number)

@@ -23,7 +23,7 @@ impl Ranked for Fill {
 
     ghost compares = { λ x y. by_user x.user y.user x.price y.price x.number y.number };
 
-    ghost exact = { same_fields nat_cmp int_cmp nat_cmp numbers_same prices_same numbers_same };
+    ghost exact = { λ x y. same_fields nat_cmp int_cmp nat_cmp numbers_same prices_same numbers_same (fill_rank x) (fill_rank y) };
 
     fn rank(&self) -> (u32, i32, u32) {
         (self.user, self.price, self.number)

@@ -1,5 +1,5 @@
 -- Steps of the loop that reads the words of a text.
-use Rattle.std.proofs.Common.{◌≡◌, ℕ, ◌+◌, ◌-◌, List, [], ◌∷◌, ◌++◌, length, take, drop, Some, None, Ok, Err, Option, Result, sym, refl, ap, ◌∙◌, append_assoc, append-nil, arith}
+use Rattle.std.proofs.Common.{◌≡◌, ℕ, ◌+◌, ◌-◌, List, [], ◌∷◌, ◌++◌, length, take, drop, Some, None, Ok, Err, Option, Result, sym, refl, ap, ◌∙◌, append_assoc, arith}
 use Rattle.std.proofs.lemmas.List.{drop-drop, drop_at, length-append, length-drop, length-take-le, take_at}
 use Rattle.std.proofs.lemmas.List.Sums.{prefix_len-le-length}
 use Rattle.std.specs.List.{prefix_len}
@@ -12,10 +12,6 @@ abbrev pub prefixed : List Word → Result (List Word) Span → Result (List Wor
 prefixed ws (Ok vs) = Ok (ws ++ vs)
 prefixed ws (Err s) = Err s
 
-pub none_read : (r : Result (List Word) Span) → prefixed [] r ≡ r
-none_read (Ok vs) = refl
-none_read (Err s) = refl
-
 one_read : (ws : List Word) (w : Word) (s : Span) (r : Result (List Word) Span) → prefixed (ws ++ w ∷ []) r ≡ prefixed ws (read_by (Some w) s r)
 one_read ws w s (Ok vs) = ap Ok (append_assoc ws (w ∷ []) vs)
 one_read ws w s (Err t) = refl
@@ -25,9 +21,6 @@ pub record Left (text : List ℕ) (ws : List Word) (rest : List ℕ) : Type 0 wh
   pub at : ℕ
   pub is : rest ≡ drop at text
   pub reads : prefixed ws (read_at text (spans at rest)) ≡ read_at text (spans 0 text)
-
-pub all_left : (text : List ℕ) → Left text [] text
-all_left text = record { at = 0; is = refl; reads = none_read (read_at text (spans 0 text)) }
 
 module _ (text : List ℕ) (ws : List Word) (rest : List ℕ) (l : Left text ws rest) where
   module _ (spelling after : List ℕ) (o : Option Word) (b : Begins rest spelling after) (e : o ≡ word_of spelling) where
@@ -61,16 +54,13 @@ module _ (text : List ℕ) (ws : List Word) (rest : List ℕ) (l : Left text ws 
     pub left_length : length text ≡ l.at + prefix_len gap rest + (length spelling + length after)
     left_length = omega (arith, sym (length-drop (l.at + prefix_len gap rest) text) ∙ (ap length tail ∙ length-append spelling after), b.some)
 
-    pub no_word : (line : List ℕ) (n : ℕ) → text ≡ uncommented line → o ≡ None → n ≡ length text - length after - length spelling → FirstUnknown line n spelling
-    no_word line n t f g =
-        let same : n ≡ l.at + prefix_len gap rest = omega (arith, left_length) in
+    pub no_word : (line : List ℕ) (i j : ℕ) → text ≡ uncommented line → o ≡ None → j ≡ length text - length after → i ≡ j - length spelling → FirstUnknown line i j
+    no_word line i j t f g h =
+        let to : j ≡ l.at + prefix_len gap rest + length spelling = omega (arith, left_length) in
+        let from : i ≡ l.at + prefix_len gap rest = omega (arith, left_length) in
         let stops : lexed line ≡ Err here = ap (λ xs. read_at xs (spans 0 xs)) (sym t) ∙ sym (ap (λ p. prefixed ws (read_by p here (read_at text more))) (sym f) ∙ step) in
         record {
-          stops = stops ∙ ap (λ k. Err (spanned k (k + length spelling))) (sym same);
-          some = b.some;
-          within = omega (arith, left_length, same, ap length t, length-take-le (prefix_len before_comment line) line (prefix_len-le-length before_comment line), prefix_len-le-length before_comment line);
-          is = sym cut_out ∙ (ap (part here) t ∙ ap (λ k. part (spanned k (k + length spelling)) (uncommented line)) (sym same));
+          stops = stops ∙ (ap (λ k. Err (spanned k (l.at + prefix_len gap rest + length spelling))) (sym from) ∙ ap (λ k. Err (spanned i k)) (sym to));
+          some = omega (arith, b.some);
+          within = omega (arith, left_length, to, ap length t, length-take-le (prefix_len before_comment line) line (prefix_len-le-length before_comment line), prefix_len-le-length before_comment line);
         }
-
-  pub no_more : ((i : ℕ) → spans i rest ≡ []) → read_at text (spans 0 text) ≡ Ok ws
-  no_more e = sym l.reads ∙ (ap (λ xs. prefixed ws (read_at text xs)) (e l.at) ∙ ap Ok (append-nil ws))

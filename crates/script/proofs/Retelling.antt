@@ -144,8 +144,8 @@ retold (Ok v) line e ws h f =
     let g : lexed line ≡ Ok ws = ap lexed f ∙ words_back ws h in
     cc
 retold (Err Memory) line e ws h f = tt
-retold (Err (Unknown n s)) line e ws h f =
+retold (Err (Unknown i j)) line e ws h f =
     let g : lexed line ≡ Ok ws = ap lexed f ∙ words_back ws h in
-    let k : lexed line ≡ Err (spanned n (n + length s.now)) = e.stops in
+    let k : lexed line ≡ Err (spanned i j) = e.stops in
     let z : ◌≡◌ {A = ℕ} 0 1 = cc in
     absurd (omega arith)

@@ -80,18 +80,17 @@ abbrev pub Next : List ℕ → Option (Bor (List ℕ) × Bor (List ℕ)) → Typ
 Next text None = (i : ℕ) → spans i text ≡ []
 Next text (Some p) = Begins text p.0.now p.1.now
 
--- the spelling at this byte of the line is its first part that is no word
-pub record FirstUnknown (line : List ℕ) (at : ℕ) (spelling : List ℕ) : Type 0 where
-  pub stops : lexed line ≡ Err (spanned at (at + length spelling))
-  pub some : 0 < length spelling
-  pub within : at + length spelling ≤ length line
-  pub is : spelling ≡ part (spanned at (at + length spelling)) (uncommented line)
+-- from a start to before an end stands the first part of the line that is no word
+pub record FirstUnknown (line : List ℕ) (start end : ℕ) : Type 0 where
+  pub stops : lexed line ≡ Err (spanned start end)
+  pub some : start < end
+  pub within : end ≤ length line
 
 -- the words of the line, unless memory fails
 abbrev pub Reads : List ℕ → Result (Vec Word Global) Unread → Type 0
 Reads line (Ok v) = lexed line ≡ Ok (vec_items v)
 Reads line (Err Memory) = Unit {0}
-Reads line (Err (Unknown n s)) = FirstUnknown line n s.now
+Reads line (Err (Unknown i j)) = FirstUnknown line i j
 
 -- words written one after another, with a space after each
 abbrev pub written_all : List Word → List ℕ
@@ -106,4 +105,4 @@ AllFit (w ∷ ws) = Fit w × AllFit ws
 abbrev pub Gives : List Word → Result (Vec Word Global) Unread → Type 0
 Gives ws (Ok v) = vec_items v ≡ ws
 Gives ws (Err Memory) = Unit {0}
-Gives ws (Err (Unknown n s)) = ⊥
+Gives ws (Err (Unknown i j)) = ⊥

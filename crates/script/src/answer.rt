@@ -22,9 +22,9 @@ pub enum Answer {
 
 // A synthetic price, with a word where it is a customer's.
 #[derive(Drop)]
-struct Price(Option<Synthetic>);
+struct ShownPrice(Option<Synthetic>);
 
-impl fmt::Display for Price {
+impl fmt::Display for ShownPrice {
     ghost output = { λ p. Some (price_text p.0) };
 
     fn fmt<W: fmt::Write>(&self, f: &mut fmt::Formatter<W>) -> fmt::Result {
@@ -43,14 +43,14 @@ impl fmt::Display for Price {
 
 // A reading, as it is printed.
 #[derive(Drop)]
-struct Read(Reading);
+struct ShownReading(Reading);
 
-impl fmt::Display for Read {
+impl fmt::Display for ShownReading {
     ghost output = { λ r. Some (reading_text r.0) };
 
     fn fmt<W: fmt::Write>(&self, f: &mut fmt::Formatter<W>) -> fmt::Result {
-        let bid = Price(self.0.sbb);
-        let offer = Price(self.0.sbo);
+        let bid = ShownPrice(self.0.sbb);
+        let offer = ShownPrice(self.0.sbo);
         let running = self.0.running;
         let due = self.0.due;
         let buy = self.0.buy;
@@ -71,16 +71,16 @@ impl fmt::Display for Answer {
             Answer::Plain(n) => write!(f, "answer {n}"),
             Answer::Placing(Placing::Booked) => f.write_str("booked"),
             Answer::Placing(Placing::Held(n)) => write!(f, "held {n}"),
-            Answer::Reading(reading) => Read(*reading).fmt(f),
+            Answer::Reading(reading) => ShownReading(*reading).fmt(f),
         }
     }
 }
 
 // A refusal, with what is told beside its number.
 #[derive(Drop)]
-struct Refused(Refusal<Fault>);
+struct ShownRefusal(Refusal<Fault>);
 
-impl fmt::Display for Refused {
+impl fmt::Display for ShownRefusal {
     ghost output = { λ r. Some (refusal_text r.0) };
 
     fn fmt<W: fmt::Write>(&self, f: &mut fmt::Formatter<W>) -> fmt::Result {
@@ -103,13 +103,13 @@ impl fmt::Display for Refused {
 
 // The line printed for a call.
 #[derive(Drop)]
-struct Line {
+struct ShownLine {
     number: usize,
     call: Keyword,
     answer: Result<Answer, Refusal<Fault>>,
 }
 
-impl fmt::Display for Line {
+impl fmt::Display for ShownLine {
     ghost output = { λ l. Some (line_of l.number l.call l.answer) };
 
     fn fmt<W: fmt::Write>(&self, f: &mut fmt::Formatter<W>) -> fmt::Result {
@@ -118,7 +118,7 @@ impl fmt::Display for Line {
         match self.answer {
             Ok(answer) => write!(f, "{number} {call}: {answer}"),
             Err(refusal) => {
-                let refused = Refused(refusal);
+                let refused = ShownRefusal(refusal);
                 write!(f, "{number} {call}: {refused}")
             }
         }
@@ -135,7 +135,7 @@ pub fn answer_line(
     ensures value { IfOk result (λ s. string_bytes s ≡ line_of line call answer.now) }
     ensures single { IfOk result (λ s. one_line (string_bytes s) ≡ true) }
 {
-    let line = Line {
+    let line = ShownLine {
         number: line,
         call,
         answer: *answer,

@@ -93,6 +93,7 @@ const ALL: [Keyword; 39] = [
 ];
 
 impl Keyword {
+    // `Display` writes it too; what is read is compared with it.
     pub fn spelling(self) -> &'static str
         ensures { result.now ≡ spelling self }
     {
@@ -138,9 +139,7 @@ impl Keyword {
             Keyword::Statement => "statement",
         }
     }
-}
 
-impl Keyword {
     fn is_spelled(self, bytes: &[u8]) -> bool
         ensures { result ≡ bytes_eq (spelling self) bytes.now }
     {

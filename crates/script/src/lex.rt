@@ -10,21 +10,22 @@ use std::alloc::{AllocFailed, Global};
 
 // Why a line has no words: want of memory, or the first spelling that is no word.
 #[derive(Clone, Copy)]
-pub enum Unread<'a> {
+pub enum Unread {
     Memory,
-    // the spelling, and the byte of the line at which it stands
-    Unknown { at: usize, spelling: &'a [u8] },
+    // the bytes of the line from a start to before an end: places, so that it outlives the line
+    Unknown { start: usize, end: usize },
 }
 
-impl<'a, T: Drop> From<AllocFailed<T>> for Unread<'a> {
+impl<T: Drop> From<AllocFailed<T>> for Unread {
     ghost from_gives = { λ _ r. r ≡ Memory };
 
-    fn from(_refused: AllocFailed<T>) -> Unread<'a> {
+    fn from(_refused: AllocFailed<T>) -> Unread {
         Unread::Memory
     }
 }
 
-// How many bytes stand before the comment of a line, if it has one.
+// How many bytes stand before the comment of a line, if it has one. This and the next two are one
+// expression of the library each, and a function that took the test would be as long.
 fn uncommented_len(line: &[u8]) -> usize
     ensures value { result ≡ prefix_len before_comment line.now }
     ensures within { result ≤ length line.now }
@@ -74,17 +75,18 @@ fn next_spelling(text: &[u8]) -> Option<(&[u8], &[u8])>
     Some(text.split_at(spelling_len(text)))
 }
 
-fn lexed_words(heap: Global, line: &[u8]) -> Result<Vec<Word>, Unread<'_>>
+fn lexed_words(heap: Global, line: &[u8]) -> Result<Vec<Word>, Unread>
     ensures { Reads line.now result }
 {
     let text = &line[..uncommented_len(line)];
     let mut rest = text;
     let mut words = Vec::new(heap);
-    // No `for`: the iterator would be a type that holds `rest` and nothing more.
+    // No `for`: what is left tells where an unknown spelling stands, and an iterator would hide it.
     while let Some((spelling, after)) = next_spelling(rest) {
         let Some(word) = word_of(spelling) else {
-            let at = text.len() - after.len() - spelling.len();
-            return Err(Unread::Unknown { at, spelling });
+            let end = text.len() - after.len();
+            let start = end - spelling.len();
+            return Err(Unread::Unknown { start, end });
         };
         words.push(word)?;
         rest = after;
@@ -93,7 +95,7 @@ fn lexed_words(heap: Global, line: &[u8]) -> Result<Vec<Word>, Unread<'_>>
 }
 
 // The words of a line, or why it has none. Words that are written one after another are read back.
-pub fn words(heap: Global, line: &[u8]) -> Result<Vec<Word>, Unread<'_>>
+pub fn words(heap: Global, line: &[u8]) -> Result<Vec<Word>, Unread>
     ensures value { Reads line.now result }
     ensures inverse { (ws : List Word) → AllFit ws → line.now ≡ written_all ws → Gives ws result }
 {

@@ -82,6 +82,7 @@ fn only_keyword(words: &[Word]) -> Option<Keyword>
     }
 }
 
+// What is left here, and in the three like it, is the table of two words.
 fn market_kind(words: &[Word]) -> Option<MarketKind>
     ensures { result ≡ market_of words.now }
 {
@@ -102,7 +103,8 @@ fn share_kind(words: &[Word]) -> Option<ShareKind>
     )
 }
 
-// Not one with the keyword's: a pattern names its case, and says it shorter than a parameter would.
+// Apart from `only_keyword`: a pattern says which kind of word is meant, and a closure in its place
+// would be longer than the pattern.
 fn only_number(words: &[Word]) -> Option<u32>
     ensures { result ≡ only_number words.now }
 {
@@ -248,7 +250,7 @@ fn one_leg(words: &[Word]) -> Option<Leg>
     })
 }
 
-// The legs that stand between commas.
+// The legs that stand between commas. The heap is passed wherever memory may be wanted.
 fn legs(heap: Global, words: &[Word]) -> Result<Option<Vec<Leg>>, AllocError>
     ensures { IfOk result (λ o. option_map vec_items o ≡ legs_of words.now) }
 {

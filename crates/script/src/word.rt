@@ -1,9 +1,7 @@
 // One word of a line: a keyword, a comma or a number, from the bytes that spell it.
-ghost use Rattle.std.specs.Prelude.{◌≡◌, ◌≢◌, drop, slice_index, Some};
-ghost use Rattle.std.specs.Option.{option_map};
+ghost use Rattle.std.specs.Prelude.{◌≡◌, Some};
 ghost use Rattle.script.specs.declared.word.Word.{Word};
-ghost use Rattle.script.specs.declared.word.Word.TheVariants.{Negative};
-ghost use Rattle.script.specs.Words.{Fit, minus, number_below, numeral_of, word_of, written};
+ghost use Rattle.script.specs.Words.{Fit, numeral_of, word_of, written};
 
 use crate::keyword::{Keyword, keyword_of};
 
@@ -17,21 +15,6 @@ pub enum Word {
     Negative(i32),
 }
 
-// Two functions, since a generic `parse` has no clause that says which number it reads.
-fn unsigned_number(text: &str) -> Option<u32>
-    requires { slice_index text.now 0 ≢ 43 }
-    ensures { result ≡ number_below 4294967296 text.now }
-{
-    text.parse().ok()
-}
-
-fn negative_number(text: &str) -> Option<i32>
-    requires { slice_index text.now 0 ≡ 45 }
-    ensures { option_map Negative result ≡ option_map minus (number_below 2147483649 (drop 1 text.now)) }
-{
-    text.parse().ok()
-}
-
 // The number that is written so: `parse` would also take one with a `+`.
 fn numeral(bytes: &[u8]) -> Option<Word>
     ensures { result ≡ numeral_of bytes.now }
@@ -39,8 +22,8 @@ fn numeral(bytes: &[u8]) -> Option<Word>
     let text = str::from_utf8(bytes).ok()?;
     match bytes {
         [b'+', ..] => None,
-        [b'-', ..] => negative_number(text).map(Word::Negative),
-        _ => unsigned_number(text).map(Word::Number),
+        [b'-', ..] => text.parse().ok().map(Word::Negative),
+        _ => text.parse().ok().map(Word::Number),
     }
 }
 

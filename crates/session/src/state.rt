@@ -26,8 +26,9 @@ pub struct Halts {
     pub components: [bool; 16],
 }
 
-// A session over a market, with a share rule. Its abstract state is `view` of specs/Views.antt, which
-// is given the market's model: a `Model` of its own could not speak of that.
+// A session over a market, with a share rule. Its tables are fixed, so that no call wants memory. Its
+// abstract state is `view` of specs/Views.antt, which is given the market's model: a `Model` of its own
+// could not speak of that.
 #[derive(Drop)]
 pub struct Session<M, S> {
     market: M,

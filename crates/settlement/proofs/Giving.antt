@@ -33,9 +33,6 @@ module _ (d : Deal) (xs : List ContraItem) (i q rest start left : ℕ) (old now 
     fills_next : part_fills d (come (drop i xs) rest) ≡ unless_empty f ++ part_fills d (come (drop (i + 1) xs) (rest - n))
     fills_next = ap (part_fills d) next ∙ ap (λ g. unless_empty g ++ part_fills d (come (drop (i + 1) xs) (rest - n))) (sym is)
 
-    pub give_enough : rest ≤ left → f.size ≤ left
-    give_enough k = omega (arith, size_is)
-
     pub give_room : HasRoom (part_fills d (come xs q)) old → HasRoom (unless_empty f) now
     give_room k = step_room old _ now _ same _ _ fills_next 257 k
 

@@ -1,5 +1,5 @@
 -- Picking items out of a list, one after the other.
-use Rattle.std.proofs.Common.{◌≡◌, ℕ, ◌+◌, ◌<◌, Bool, true, false, cond, ◌||◌, List, [], ◌∷◌, ◌++◌, length, get_or, take, filter, sym, refl, ap, ◌∙◌}
+use Rattle.std.proofs.Common.{◌≡◌, ℕ, ◌+◌, ◌<◌, Bool, true, false, cond, List, [], ◌∷◌, ◌++◌, length, get_or, take, filter, sym, refl, ap, ◌∙◌}
 use Rattle.std.proofs.lemmas.List.Elements.{filter-append}
 use Rattle.std.proofs.lemmas.List.{append_assoc, append-nil, take_more}
 use Rattle.std.specs.List.{list_any}
@@ -18,11 +18,6 @@ module _ {X : Type 0} (p : X → Bool) (xs found : List X) (i : ℕ) (inv : foun
   pub pass_on : false ≡ p (get_or xs i d) → found ≡ filter p (take (i + 1) xs)
   pass_on e = sym (one_on ∙ (ap (λ b. found ++ cond b (get_or xs i d ∷ []) []) (sym e) ∙ append-nil found))
 
-some_any : {X : Type 0} (p : X → Bool) (xs : List X) → some p xs ≡ list_any p xs
-unfolding some
-some_any p [] = refl
-some_any p (x ∷ xs) = ap (λ b. p x || b) (some_any p xs)
-
 -- the first items of each kind, with one item more
 firsts_more : {X : Type 0} (same : X → X → Bool) (seen xs : List X) (x : X) → firsts same seen (xs ++ x ∷ []) ≡ firsts same seen xs ++ cond (some (same x) (seen ++ xs)) [] (x ∷ [])
 unfolding firsts
@@ -36,11 +31,12 @@ firsts_more same seen (y ∷ ys) x =
 
 module _ {X : Type 0} (same : X → X → Bool) (xs found : List X) (i : ℕ) (inv : found ≡ firsts same [] (take i xs)) (d : X) (h : i < length xs) (b : Bool) (said : b ≡ list_any (same (get_or xs i d)) (take i xs)) where
   first_on : firsts same [] (take (i + 1) xs) ≡ found ++ cond b [] (get_or xs i d ∷ [])
+  unfolding some
   first_on =
       ap (firsts same []) (take_more xs i d h)
       ∙ (firsts_more same [] (take i xs) (get_or xs i d)
       ∙ (ap (λ l. l ++ cond (some (same (get_or xs i d)) (take i xs)) [] (get_or xs i d ∷ [])) (sym inv)
-      ∙ ap (λ c. found ++ cond c [] (get_or xs i d ∷ [])) (some_any (same (get_or xs i d)) (take i xs) ∙ sym said)))
+      ∙ ap (λ c. found ++ cond c [] (get_or xs i d ∷ [])) (sym said)))
 
   pub first_found : false ≡ b → found ++ get_or xs i d ∷ [] ≡ firsts same [] (take (i + 1) xs)
   first_found e = sym (first_on ∙ ap (λ c. found ++ cond c [] (get_or xs i d ∷ [])) (sym e))

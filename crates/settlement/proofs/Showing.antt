@@ -1,15 +1,10 @@
 -- Records shown one after the other in place.
-use Rattle.std.proofs.Common.{◌≡◌, ℕ, ◌+◌, ◌<◌, List, ◌++◌, map, length, get_or, take, drop, set, ap, ◌∙◌, arith}
+use Rattle.std.proofs.Common.{◌≡◌, ℕ, ◌+◌, ◌<◌, List, ◌++◌, map, length, get_or, take, drop, set, ap, ◌∙◌}
 use Rattle.std.proofs.lemmas.List.Edits.{map_over_more}
-use Rattle.std.proofs.lemmas.List.{drop_more, get_or_at, get_or_default, length-map, length-take-le}
+use Rattle.std.proofs.lemmas.List.{get_or_default}
 
 module _ {X : Type 0} (f : X → X) (old now : List X) (i : ℕ) (inv : now ≡ map f (take i old) ++ drop i old) where
   module _ (h : i < length old) where
-    same_here : (d : X) → get_or now i d ≡ get_or old i d
-    same_here d =
-        ap (λ l. get_or l i d) (inv ∙ ap (λ l. map f (take i old) ++ l) (drop_more old i d h))
-        ∙ get_or_at (map f (take i old)) (get_or old i d) (drop (i + 1) old) d i (length-map (take i old) f ∙ length-take-le i old (omega arith))
-
     pub shown_on : (d y : X) → i < length now → y ≡ f (get_or now i d) → set now i y ≡ map f (take (i + 1) old) ++ drop (i + 1) old
     shown_on d y k e = ap (set now i) e ∙ map_over_more f old now i (get_or now i d) h inv (read now i d k)
       where

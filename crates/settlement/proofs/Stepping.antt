@@ -7,7 +7,7 @@ use Rattle.ranked.specs.declared.contra.ContraItem.{ContraItem}
 use Rattle.ranked.specs.declared.fill.Fill.{Fill}
 use Rattle.allocation.specs.Deals.{Deal}
 use Rattle.allocation.specs.Fillings.{fills_of, level_fills}
-use Rattle.allocation.specs.Levels.{Level, beginnings, below_in, items_at, levels_from, spent_at, stop_in}
+use Rattle.allocation.specs.Levels.{Level, below_in, items_at, levels_from, spent_at, stop_in}
 use Rattle.settlement.specs.Writes.{HasRoom, Worked}
 use Rattle.settlement.specs.declared.filling.Filling.{Filling}
 use Rattle.settlement.proofs.Writing.{end_same, step_room, step_same}
@@ -34,12 +34,6 @@ module _ (awards : List ℕ → ℕ → List ℕ) (d : Deal) (items : List Contr
 
   abbrev pub rest_fills : List ContraItem → ℕ → List Fill
   rest_fills ks left = flat_map (level_fills d) (levels_from awards d items ks left)
-
-  -- nothing is written yet
-  pub at_start : (new : Filling) (ks firsts : List ContraItem) (size : ℕ) → new.fills.items ≡ [] → new.left ≡ size → size ≡ d.size → ks ≡ firsts → firsts ≡ beginnings d [] items → new.fills.items ++ rest_fills ks new.left ≡ fills_of awards d items
-  at_start new ks firsts size e f s g h =
-      ap (λ l. l ++ rest_fills ks new.left) e
-      ∙ (ap (λ n. rest_fills ks n) (f ∙ s) ∙ ap (λ l. rest_fills l d.size) (g ∙ h))
 
   -- the levels that ks begin are still to be worked
   module _ (ks : List ContraItem) (now : Filling) (same : now.fills.items ++ rest_fills ks now.left ≡ fills_of awards d items) where

@@ -33,7 +33,9 @@ impl Filling {
         }
     }
 
-    // Takes the contracts of a fill, and writes it, unless its size is 0.
+    // Takes the contracts of a fill, and writes it, unless its size is 0. Enough contracts and room
+    // are asked, here and where fills are given: they hold of a fill beside those written, and are no
+    // facts of one value.
     pub(crate) fn fill(&mut self, fill: Fill)
         requires enough { fill.size ≤ self.old.left }
         requires room { HasRoom (unless_empty fill) self.old.fills.items }

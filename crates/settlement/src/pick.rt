@@ -12,8 +12,8 @@ use ranked::contra::ContraItem;
 // So many contra items there may be. They lie in the value itself: a settlement has no heap.
 pub(crate) type Items = ArrayVec<ContraItem, 128>;
 
-// The items that pass a test, in their order. They may stand in a caller's slice, so that they are
-// few is asked.
+// The items that pass a test, in their order. That they are few is asked: a type that says it of a
+// slice would have to be made at each call, and of vectors too, which say it already.
 pub(crate) fn picked<P: Fn(&ContraItem) -> bool>(items: &[ContraItem], passes: P) -> Items
     requires few { length items.now ≤ 128 }
     requires always { P.IsAlwaysCallable passes }
@@ -50,6 +50,7 @@ pub(crate) fn firsts<A: Fn(&ContraItem, &ContraItem) -> bool>(
     ensures { (same : Item → Item → Bool) → Likens (FnReturnsAtPair A.Fn alike) same → result.items ≡ firsts same [] items.now }
 {
     let mut found = ArrayVec::new();
+    // Each item is compared with all in front of it, so its place is counted.
     for (i, item) in items.iter().enumerate() {
         if !is_seen(item, &items[..i], &alike) {
             found.push(*item);

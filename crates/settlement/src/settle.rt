@@ -1,5 +1,5 @@
 // Settles one auction: which contracts go to whom at which price.
-ghost use Rattle.std.specs.Prelude.{◌≡◌, ◌≤◌, length, take, is_ok, IfOk, if◌then◌else◌, nat_le};
+ghost use Rattle.std.specs.Prelude.{◌≡◌, ◌≤◌, length, take, is_ok, IfOk, if◌then◌else◌};
 ghost use Rattle.std.specs.List.{AllByRecursion};
 ghost use Rattle.terms.specs.Refusals.{said};
 ghost use Rattle.terms.specs.Tables.{entries};
@@ -26,15 +26,8 @@ use terms::order::{Order, Response};
 use terms::refusal::Refusal;
 use terms::table::Table;
 
-// Whether a list has a place for every fill that a settlement may write.
-fn has_room(fills: &[Fill]) -> bool
-    ensures { result ≡ nat_le 257 (length fills.now) }
-{
-    fills.len() >= MOST_FILLS
-}
-
 // Fills an auction from its items, shows both lists in true prices, and answers how many fills
-// it wrote.
+// it wrote. That the items are few is asked, as `picked` does.
 fn fill_and_show<S: ShareRule>(
     auction: &Auction,
     rule: &S,
@@ -80,7 +73,7 @@ pub fn settle<S: ShareRule>(
     ensures fills { fills.new ≡ (if is_ok result then over (shown_fills auction.now.row (auction_fills (S.ShareRule.awards rule.now) auction.now.row (entries orders.now) (entries responses.now))) fills.old else fills.old) }
     ensures law { IfOk result (λ n. Outcome (S.ShareRule.awards rule.now) auction.now.row (entries orders.now) (entries responses.now) (take n.items contra.new) (take n.fills fills.new)) }
 {
-    if !has_room(fills) {
+    if fills.len() < MOST_FILLS {
         return Err(Refusal::Full);
     }
     let items = contra_items(auction, orders, responses, contra)?;

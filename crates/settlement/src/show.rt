@@ -13,7 +13,7 @@ use terms::side::Side;
 
 // A record with prices.
 pub trait Shown: Sized {
-    // its prices fit when they are negated for this side
+    // its prices fit when they are negated for this side: asked, for it holds of a record beside a side
     ghost turns: { Way → Self → Type 0 };
 
     ghost shown: { Way → Self → Self };

@@ -1,11 +1,10 @@
--- Pro rata: the steps of its loops, and how its two ways come to its awards.
-use Rattle.std.proofs.Common.{◌≡◌, ℕ, ◌+◌, ◌-◌, ◌<◌, ◌≤◌, leb, List, [], ◌∷◌, ◌++◌, length, get_or, take, drop, set, sum, sum_by, sym, refl, ap, ◌∙◌, arith}
+-- Pro rata: how its two ways come to its awards.
+use Rattle.std.proofs.Common.{◌≡◌, ℕ, ◌-◌, ◌<◌, ◌≤◌, leb, List, [], ◌∷◌, ◌++◌, length, drop, sum, sum_by, sym, refl, ap, ◌∙◌, arith}
 use Rattle.std.proofs.lemmas.List.Sums.{sum_by-cons}
 use Rattle.std.proofs.lemmas.Bool.{cond-false, cond-true, le-leb, lt-leb}
 use Rattle.share.specs.Prorating.{parts_within}
 use Rattle.share.specs.Awards.{total}
-use Rattle.share.specs.Proration.{part, parts, one_more, dealt, pro_rata}
-use Rattle.share.specs.Writing.{write_on, write_end}
+use Rattle.share.specs.Proration.{part, parts, dealt, pro_rata}
 
 pub sum_total : (xs : List ℕ) → sum xs ≡ total xs
 sum_total [] = refl
@@ -15,23 +14,6 @@ pub sum_parts : (all q : ℕ) (xs : List ℕ) → sum_by (part all q) xs ≡ tot
 unfolding parts
 sum_parts all q [] = refl
 sum_parts all q (x ∷ xs) = omega (arith, sum_by-cons (part all q) x xs, sum_parts all q xs)
-
-dealt_step : (sum q left s m p : ℕ) (ys : List ℕ) → m ≡ one_more s left → p ≡ part sum q s → dealt sum q left (s ∷ ys) ≡ (p + m) ∷ dealt sum q (left - m) ys
-unfolding dealt
-dealt_step sum q left s m p ys e f = ap (λ n. (part sum q s + n) ∷ dealt sum q (left - n) ys) (sym e) ∙ ap (λ n. (n + m) ∷ dealt sum q (left - m) ys) (sym f)
-
-dealt_none : (sum q left : ℕ) → dealt sum q left [] ≡ []
-unfolding dealt
-dealt_none sum q left = refl
-
--- xs are the sizes, ws the awards so far over the list as it was
-module _ (sum q : ℕ) (xs ws old : List ℕ) (over i left : ℕ) (inv : (take i ws ++ dealt sum q left (drop i xs) ≡ dealt sum q over xs) × (drop (length xs) ws ≡ drop (length xs) old)) where
-  pub deal_on : i < length xs → length ws ≡ length old → length xs ≤ length old → (m p : ℕ) → m ≡ one_more (get_or xs i 0) left → p ≡ part sum q (get_or xs i 0) → (take (i + 1) (set ws i (p + m)) ++ dealt sum q (left - m) (drop (i + 1) xs) ≡ dealt sum q over xs) × (drop (length xs) (set ws i (p + m)) ≡ drop (length xs) old)
-  deal_on h long room m p e f =
-      write_on (dealt sum q left) (dealt sum q (left - m)) xs ws old (dealt sum q over xs) i (p + m) inv h (omega arith) (λ ys. dealt_step sum q left (get_or xs i 0) m p ys e f)
-
-  pub deal_end : length xs ≤ i → i ≤ length xs → ws ≡ dealt sum q over xs ++ drop (length xs) old
-  deal_end h k = write_end (dealt sum q left) xs ws old (dealt sum q over xs) i inv (dealt_none sum q left) (omega arith)
 
 -- the quantity covers the sum: the sizes are copied
 pub all_given : (xs ws old : List ℕ) (q all : ℕ) → all ≡ sum xs → all ≤ q → ws ≡ xs → ws ++ drop (length xs) old ≡ pro_rata xs q ++ drop (length xs) old

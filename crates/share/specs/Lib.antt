@@ -5,3 +5,4 @@ pub mod Proration
 pub mod Firsts
 pub mod Writing
 pub mod Prorating
+pub mod Turns

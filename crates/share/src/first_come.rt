@@ -3,6 +3,7 @@ ghost use Rattle.std.specs.Prelude.{◌≡◌, ◌≤◌, ◌++◌, length, drop
 ghost use Rattle.share.specs.Filling.{first_come};
 ghost use Rattle.share.specs.Firsts.{first_each, first_within, first_spent};
 
+use crate::in_turn::award_in_turn;
 use crate::range::check_request;
 use crate::rule::ShareRule;
 use std::convert::Infallible;
@@ -11,19 +12,16 @@ use terms::refusal::Refusal;
 #[derive(Clone, Copy)]
 pub struct FirstCome;
 
-// Gives each size the lesser of it and what is left. Here the whole award uses up what is left, and
-// pro rata only the one more, so each has a loop of its own. The awards are written by place, for of
-// a list whose `iter_mut` is zipped nothing is known after the loop.
+// Gives each size the lesser of it and what is left.
 fn fill(sizes: &[u32], q: u32, given: &mut [u32])
     requires { length sizes.now ≤ length given.old }
     ensures { given.new ≡ first_come sizes.now q ++ drop (length sizes.now) given.old }
 {
-    let mut left = q;
-    for (place, &size) in sizes.iter().enumerate() {
+    let lesser = |size: u32, left: u32| {
         let award = size.min(left);
-        given[place] = award;
-        left -= award;
-    }
+        (award, left - award)
+    };
+    award_in_turn(sizes, q, lesser, given);
 }
 
 impl ShareRule for FirstCome {

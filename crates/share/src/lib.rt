@@ -2,6 +2,7 @@
 #![tactic(auto)]
 
 pub mod first_come;
+mod in_turn;
 pub mod pro_rata;
 mod range;
 pub mod rule;

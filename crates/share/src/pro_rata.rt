@@ -3,6 +3,7 @@ ghost use Rattle.std.specs.Prelude.{◌≡◌, ◌+◌, ◌-◌, ◌^◌, ◌<�
 ghost use Rattle.share.specs.Proration.{part, one_more, dealt, pro_rata};
 ghost use Rattle.share.specs.Prorating.{pro_rata_each, pro_rata_within, pro_rata_spent};
 
+use crate::in_turn::award_in_turn;
 use crate::range::check_request;
 use crate::rule::ShareRule;
 use std::convert::Infallible;
@@ -53,18 +54,16 @@ impl Short {
         self.q - given
     }
 
-    // Gives each size its part and, while some is left over, one more. The awards are written by
-    // place, for of a list whose `iter_mut` is zipped nothing is known after the loop.
+    // Gives each size its part and, while some is left over, one more.
     fn deal(self, sizes: &[u32], over: u32, given: &mut [u32])
         requires { length sizes.now ≤ length given.old }
         ensures { given.new ≡ dealt self.sum self.q over sizes.now ++ drop (length sizes.now) given.old }
     {
-        let mut left = over;
-        for (place, &size) in sizes.iter().enumerate() {
+        let part_and_more = |size: u32, left: u32| {
             let more = one_more(size, left);
-            given[place] = self.part_of(size) + more;
-            left -= more;
-        }
+            (self.part_of(size) + more, left - more)
+        };
+        award_in_turn(sizes, over, part_and_more, given);
     }
 }
 

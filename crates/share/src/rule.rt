@@ -13,8 +13,10 @@ pub trait ShareRule {
 
     // Writes the awards into the first places of `given`. Takes up to 128 sizes, each at most
     // 100,000, and a quantity of 0 to 100,000; any other request, and then a list with too few
-    // places, is refused and leaves `given` as it was. Each rule tests the request itself, so that
-    // no method stands open to a request that was not tested.
+    // places, is refused and leaves `given` as it was. Each rule has two lines, the test of the request
+    // and its own filling: a provided method would need a public one beneath it that asks something
+    // of its caller, and a function that is given the filling would be as long at each call. The
+    // sizes, the quantity and the list are each call's own, so they are arguments and no struct.
     fn share(&self, sizes: &[u32], q: u32, given: &mut [u32]) -> Result<(), Refusal<Infallible>>
         ensures answer { said result ≡ share_said sizes.now q (length given.old) }
         ensures after { given.new ≡ (if is_ok result then awards self.now sizes.now q ++ drop (length sizes.now) given.old else given.old) };

@@ -1,4 +1,3 @@
 pub mod Pricing
-pub mod Listing
 pub mod Summing
 pub mod Suffixes

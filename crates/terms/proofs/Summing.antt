@@ -1,7 +1,7 @@
 -- A strategy's sum: its bounds, and the steps of the loop that works it out.
-use Rattle.std.proofs.Common.{◌≡◌, ℕ, ◌+◌, ◌*◌, ◌<◌, ◌≤◌, Bool, true, not, ◌&&◌, ◌||◌, List, [], ◌∷◌, length, get_or, drop, ℤ, ◌+ℤ◌, Some, None, Option, sym, refl, ap, ◌∙◌, mul-le-mul, arith}
+use Rattle.std.proofs.Common.{◌≡◌, ℕ, ◌+◌, ◌<◌, ◌≤◌, Bool, true, ◌||◌, List, [], ◌∷◌, length, get_or, drop, ℤ, ◌+ℤ◌, Some, None, Option, sym, refl, ap, ◌∙◌, arith}
 use mathlib.Core.Bool.{or_assoc, or-false}
-use Rattle.std.proofs.lemmas.List.{drop_more, drop_all, at_drop_more}
+use Rattle.std.proofs.lemmas.List.{drop_more}
 use Rattle.std.proofs.lemmas.Int.{ints}
 use Rattle.std.proofs.lemmas.Bool.Decides.{nat_tests}
 use Rattle.std.specs.Option.{option_map}
@@ -9,13 +9,8 @@ use Rattle.terms.specs.declared.leg.Leg.{Leg}
 use Rattle.terms.specs.declared.side.Side.TheVariants.{Buy}
 use Rattle.terms.specs.declared.synthetic.Synthetic.{Synthetic}
 use Rattle.terms.specs.declared.top.Top.{Top}
-use Rattle.terms.specs.Legs.{apart, leg_fits, names, well_formed}
-use Rattle.terms.specs.Ranges.{complex_price}
-use Rattle.terms.specs.Synthetics.{Within, nought, plus, shown, some_customer, summed, total, valued}
-
--- the dearest leg: 8 times 999,999
-pub product_le : (r p : ℕ) → r ≤ 8 → p ≤ 999999 → r * p ≤ 7999992
-product_le r p h k = mul-le-mul h k
+use Rattle.terms.specs.Legs.{apart, well_formed}
+use Rattle.terms.specs.Synthetics.{nought, plus, shown, some_customer, summed, total, valued}
 
 pub same_synthetic : (p q : ℤ) (a b : Bool) → p ≡ q → a ≡ b → ◌≡◌ {A = Synthetic} (record { price = p; customer = a }) (record { price = q; customer = b })
 same_synthetic p q a b e f = cc
@@ -39,28 +34,11 @@ module _ (ls : List Leg) (left : List (Option Top)) (i : ℕ) (s : Synthetic) (w
   pub absent_top : (ts : List (Option Top)) → i < length ls → left ≡ None ∷ ts → None ≡ whole
   absent_top ts h e = sym (ap (summed s (get_or ls i no_leg ∷ drop (i + 1) ls)) e) ∙ at_leg h
 
-  pub on_top : (t : Top) (ts : List (Option Top)) (r : Synthetic) → i < length ls → left ≡ Some t ∷ ts → r ≡ plus s (get_or ls i no_leg) t → summed r (drop (i + 1) ls) ts ≡ whole
-  on_top t ts r h e g =
-      ap (λ x. summed x (drop (i + 1) ls) ts) g ∙ (sym (ap (summed s (get_or ls i no_leg ∷ drop (i + 1) ls)) e) ∙ at_leg h)
-
-  pub sum_end : length ls ≤ i → Some s ≡ whole
-  sum_end h = sym (ap (λ x. summed s x left) (drop_all i ls h)) ∙ inv
-
-module _ (ls : List Leg) (i : ℕ) (d : Leg) (h : i < length ls) (ok : apart (drop i ls) ≡ true) where
-  pub fit_here : leg_fits (get_or ls i d) ≡ true
-  fit_here = let e : apart (drop i ls) ≡ (leg_fits (get_or ls i d) && (not (names (get_or ls i d).component (drop (i + 1) ls)) && apart (drop (i + 1) ls))) = at_drop_more apart ls i d h in grind (arith, nat_tests)
-
-  pub fit_later : apart (drop (i + 1) ls) ≡ true
-  fit_later = let e : apart (drop i ls) ≡ (leg_fits (get_or ls i d) && (not (names (get_or ls i d).component (drop (i + 1) ls)) && apart (drop (i + 1) ls))) = at_drop_more apart ls i d h in grind (arith, nat_tests)
+pub few_legs : (ls : List Leg) → well_formed ls ≡ true → length ls ≤ 4
+few_legs ls e = grind (arith, nat_tests)
 
 pub fit_all : (ls : List Leg) → well_formed ls ≡ true → apart ls ≡ true
 fit_all ls e = grind (arith, nat_tests)
-
-pub within_three : (n : ℕ) (z : ℤ) → n ≤ 3 → Within n z → Within 3 z
-within_three n z h w = (grind (arith, ints), grind (arith, ints))
-
-pub within_range : (n : ℕ) (z : ℤ) → n ≤ 4 → Within n z → complex_price z ≡ true
-within_range n z h w = grind (arith, ints)
 
 -- a price so far, with the sum over the legs
 abbrev added : Synthetic → List Leg → List Top → Synthetic

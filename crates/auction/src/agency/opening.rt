@@ -54,9 +54,8 @@ impl Agency {
         ensures value { result ≡ opening_of self.side self.stop self.customer quotes.bid quotes.best quotes.offer }
         ensures capped { IfOk result (λ c. cap_fits (option_map (as_buyer self.side) c) (as_buyer self.side self.stop) ≡ true) }
     {
-        if let Some(clause) = self.failed(quotes) {
-            return Err(clause);
-        }
+        self.met(quotes)?;
+        // No `map`: its closure would have to take any price, and a true price must fit.
         match self.cap(quotes) {
             Some(cap) => Ok(Some(true_price(self.side, cap))),
             None => Ok(None),

@@ -43,11 +43,9 @@ impl Board {
     pub fn new() -> Board
         ensures { (c : ℕ) (s : Side) → board_top result c s ≡ None }
     {
-        let none = Tops {
-            bid: None,
-            offer: None,
-        };
-        Board { tops: [none; 16] }
+        Board {
+            tops: [Tops::default(); 16],
+        }
     }
 
     fn top(&self, place: Place) -> Option<Top>
@@ -56,7 +54,7 @@ impl Board {
         self.tops[place.index()].on(place.side)
     }
 
-    // The board with another top there.
+    // Sets the top there.
     fn set(&mut self, place: Place, top: Option<Top>)
         ensures { self.new ≡ with_top self.old place.component place.side top }
     {

@@ -27,7 +27,8 @@ fn better(side: Side, a: &Top, b: &Top) -> bool
     }
 }
 
-// The better of two tops of one side; at one price, a customer's if either is.
+// The better of two tops of one side; at one price, a customer's if either is. Asked both ways of
+// `better`, which knows that the sides run opposite ways.
 fn joined(side: Side, best: &Top, top: &Top) -> Top
     ensures { result ≡ joined side best.now top.now }
 {
@@ -70,8 +71,8 @@ fn best_among(place: Place, best: Option<Top>, orders: &[BookOrder]) -> Option<T
         .fold(best, |best, order| order.join(place, best))
 }
 
-// The place of the order with this number, searched for: a map would want memory at each notice.
-fn place_of(number: u32, orders: &[BookOrder]) -> Option<usize>
+// The index of the order with this number, searched for: a map would want memory at each notice.
+fn index_of(number: u32, orders: &[BookOrder]) -> Option<usize>
     ensures { result ≡ position (λ o. o.number == number) orders.now }
 {
     orders.iter().position(|order| order.number == number)
@@ -87,6 +88,7 @@ fn is_number(number: u32) -> bool
 #[derive(Clone, Copy)]
 enum Change {
     Added(BookOrder),
+    // the index, by which the table takes an order out
     Withdrawn(usize),
 }
 
@@ -109,7 +111,7 @@ fn added(orders: &[BookOrder], number: u32, quoted: &Quoted) -> Result<BookOrder
     if orders.len() >= 64 {
         return Err(Cause::BookFull.at(component));
     }
-    if place_of(number, orders).is_some() {
+    if index_of(number, orders).is_some() {
         return Err(Cause::OrderNumber.at(component));
     }
     Ok(BookOrder {
@@ -129,7 +131,7 @@ fn withdrawn(orders: &[BookOrder], number: u32) -> Result<usize, Fault>
     if !is_number(number) {
         return Err(Cause::OutOfRange.nowhere());
     }
-    place_of(number, orders).ok_or(Cause::OrderNumber.nowhere())
+    index_of(number, orders).ok_or(Cause::OrderNumber.nowhere())
 }
 
 impl Change {

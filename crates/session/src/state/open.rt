@@ -16,6 +16,7 @@ impl<M: Market, S> Session<M, S> {
             return Err(Refusal::Range);
         }
         self.phase = Phase::Open { period };
+        // The rules answer 0.
         Ok(0)
     }
 }

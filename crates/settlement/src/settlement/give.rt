@@ -31,6 +31,7 @@ impl<S> Settlement<'_, S> {
         Fill {
             id: self.auction.id(),
             user: self.auction.user(),
+            // The rules number it 0.
             number: 0,
             price,
             size,
@@ -45,6 +46,8 @@ impl<S> Settlement<'_, S> {
         ensures given { Given (deal_of self.now.auction.now.row) (come items.now q) filling.old filling.new }
         ensures most { filling.old.left ≤ filling.new.left + q }
     {
+        // `ranked::drawn::draw` changes the list that it draws from: the items would have to be
+        // copied, and compared with it afterwards.
         let mut rest = q;
         for item in items {
             let given = rest.min(item.counted);

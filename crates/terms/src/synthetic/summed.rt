@@ -57,6 +57,7 @@ impl Strategy {
             price: 0,
             customer: false,
         };
+        // No `zip`: a top that is missing makes no price, and `zip` would pass it over.
         let mut left = tops.iter();
         for leg in self.legs() {
             let top = left.next()?.as_ref()?;

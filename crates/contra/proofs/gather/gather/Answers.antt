@@ -1,7 +1,7 @@
 use Rattle.std.proofs.Common.{refl, ◌∙◌, arith}
 use Rattle.ranked.specs.Contras.{contra_before}
 use Rattle.contra.specs.Turns.{ItemTurns}
-use Rattle.contra.proofs.Gathering.{gather_all, gather_all_len, gather_len, gather_on, gather_room, gathered_none, made_all, made_turns}
+use Rattle.contra.proofs.Gathering.{gather_len, gather_on, gather_room, gathered_none, made_turns}
 use Rattle.contra.proofs.gather.gather.Goals as goal
 
 pub loop-entry-init : goal.loop-entry-init
@@ -23,16 +23,3 @@ loop-entry-preserved g c =
       p.owner ∙ i.3,
       made_turns f (ItemTurns c.args.auction.now.row.side) _ _ _ _ c.loop-entry-test.true c.entry-item.is c.item.ensures.value i.4 c.item.ensures.turns,
     )
-
-pub returns : goal.returns
-returns g c =
-    let i = c.loop-entry.invariant in
-    let f = g.T.Interest.item c.args.auction.now.row in
-    let end = c.loop-entry-test.false in
-    record {
-      after = gather_all f contra_before c.args.entries.now _ _ _ _ _ i.0 i.1 c.requires end;
-      len = gather_all_len f contra_before c.args.entries.now _ _ _ _ _ i.0 i.1 c.requires end;
-      size = i.2;
-      owner = i.3;
-      turns = made_all f (ItemTurns c.args.auction.now.row.side) _ _ end i.4;
-    }

@@ -13,15 +13,10 @@ loop-item-preserved g c =
     let a = c.draw_one-left.ensures.after in
     (front_more n d _ _ _ _ _ i.0 i.1 i.2 _ _ _ h k t a, same_more n d _ _ _ _ _ i.0 i.1 i.2 _ _ _ h k t a, due_more n d _ _ _ _ _ i.0 i.1 i.2 _ _ _ h k t a)
 
-pub returns : goal.returns
-returns g c =
+pub returns-clause-drawing : goal.returns-clause-drawing
+returns-clause-drawing g c =
     let n = g.T.Drawn.contracts in
     let d = g.T.Drawn.reduced in
     let i = c.loop-item.invariant in
     let k = c.loop-item-test.false in
-    let e = all_drawn n d _ _ _ _ _ i.0 i.1 i.2 (omega arith) k in
-    record {
-      after = e;
-      bound = omega arith;
-      drawing = drawing_is n d g.met.T.Drawn.left g.T.Ranked.rank g.met.T.Drawn.ranked g.met.T.Rank.Ord.total g.T.Ranked.before g.met.T.Ranked.compares _ _ _ _ (lesser_drawn n d _ _ _ _ _ i.0 i.1 i.2 k) e;
-    }
+    drawing_is n d g.met.T.Drawn.left g.T.Ranked.rank g.met.T.Drawn.ranked g.met.T.Rank.Ord.total g.T.Ranked.before g.met.T.Ranked.compares _ _ _ _ (lesser_drawn n d _ _ _ _ _ i.0 i.1 i.2 k) (all_drawn n d _ _ _ _ _ i.0 i.1 i.2 (omega arith) k)

@@ -7,5 +7,5 @@ loop-spelling-preserved c = one_word _ _ _ c.loop-spelling.invariant _ _ c.word_
 
 pub returns-in_default-word_of : goal.returns-in_default-word_of
 returns-in_default-word_of c =
-    no_word _ _ _ c.loop-spelling.invariant _ _ c.word_of.result c.in-Some.ensures c.word_of.ensures.value c.args.line.now _ refl c.in_default-word_of.is
-    (ap (λ n. length (take n c.args.line.now) - length c.in-Some.after.now - length c.in-Some.spelling.now) c.uncommented_len.ensures.value)
+    no_word _ _ _ c.loop-spelling.invariant _ _ c.word_of.result c.in-Some.ensures c.word_of.ensures.value c.args.line.now _ _ refl c.in_default-word_of.is
+    (ap (λ n. length (take n c.args.line.now) - length c.in-Some.after.now) c.uncommented_len.ensures.value) refl

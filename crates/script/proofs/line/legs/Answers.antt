@@ -11,13 +11,10 @@ returns c =
     (YieldsList-at c.into_iter-piece-iterator.ensures.into_iter_gives
     (YieldsList-from_slice_split _ (λ w. not (no_comma w)) c.args.words.now c.split-piece-items.ensures.rest c.split-piece-items.ensures.done c.split-piece-items.ensures.closure (λ x b q k. search (rules, tests))))
     c.loop-piece.yielded _ c.loop-piece.yielded_by _ _ c.in-None.is c.next.ensures.steps in
-    let (_, _, legs) = c.loop-piece.invariant in
-    sym legs ∙ (ap each seen.0 ∙ sym (some_words _ c.if-is_empty.ensures))
+    sym c.loop-piece.invariant ∙ (ap each seen.0 ∙ sym (some_words _ c.if-is_empty.ensures))
 
 pub loop-piece-preserved : goal.loop-piece-preserved
-loop-piece-preserved c =
-    let (_, _, legs) = c.loop-piece.invariant in
-    (search rules, search rules, next_leg c.loop-piece.yielded c.in-Some.piece _ _ _ _ c.one_leg.ensures c.in-Some-one_leg.is legs c.in_ok-push.ensures.items)
+loop-piece-preserved c = next_leg c.loop-piece.yielded c.in-Some.piece _ _ _ _ c.one_leg.ensures c.in-Some-one_leg.is c.loop-piece.invariant c.in_ok-push.ensures.items
 
 pub returns-in_default : goal.returns-in_default
 returns-in_default c =

@@ -4,6 +4,4 @@ use Rattle.script.proofs.line.legs.Given as goal
 
 abbrev pub invariant-loop-piece : goal.invariant-loop-piece
 invariant-loop-piece l =
-    (goal.iterator-loop-piece).can_next l.piece-iterator
-    × (goal.iterator-loop-piece).is_finite l.piece-iterator
-    × (each (map (λ p. p.now) l.yielded) ≡ Some (vec_items l.legs))
+    each (map (λ p. p.now) l.yielded) ≡ Some (vec_items l.legs)

@@ -1,8 +1,8 @@
-use Rattle.share.specs.Firsts.{fill_on, fill_end}
+use Rattle.std.proofs.Common.{◌++◌, length, drop, ap, ◌∙◌, rules}
+use Rattle.share.proofs.Turning.{first_awarded, lesser}
 use Rattle.share.proofs.first_come.fill.Goals as goal
 
-pub loop-place-preserved : goal.loop-place-preserved
-loop-place-preserved c = fill_on _ _ _ _ _ _ c.loop-place.invariant c.loop-place-test.true c.loop-place.auto.given c.requires _ c.min-award.ensures
-
 pub returns : goal.returns
-returns c = fill_end _ _ _ _ _ _ c.loop-place.invariant c.loop-place-test.false c.loop-place.auto.place-end
+returns c =
+    c.award_in_turn.ensures lesser (λ size left r h k e. search rules)
+    ∙ ap (λ vs. vs ++ drop (length c.args.sizes.now) c.args.given.now) (first_awarded c.args.sizes.now c.args.q)

@@ -1,14 +1,9 @@
 use Rattle.std.proofs.Common.{◌+◌, ◌++◌, ap, ◌∙◌, drop}
 use Rattle.std.proofs.lemmas.List.{drop_all, drop_more}
 use Rattle.allocation.specs.Deals.{deal_of}
-use Rattle.settlement.proofs.Stepping.{all_done, at_start, last_done, last_room, level_on, level_passed, level_room, rest_fills}
+use Rattle.settlement.proofs.Stepping.{all_done, last_done, last_room, level_on, level_passed, level_room, rest_fills}
 use Rattle.settlement.proofs.settlement.Settlement.fills.Goals.{then-filling-gt0, else-filling-gt0}
 use Rattle.settlement.proofs.settlement.Settlement.fills.Goals as goal
-
-pub loop-first-init : goal.loop-first-init
-loop-first-init g c =
-    let n = c.new-filling.ensures in
-    at_start (g.S.ShareRule.awards c.args.self.now.rule.now) (deal_of c.args.self.now.auction.now.row) c.args.self.now.items.now c.new-filling.result c.deref-first-items.result.now c.beginnings-beginnings.result.items c.size.result n.empty n.left c.size.ensures.value c.deref-first-items.ensures.0 c.beginnings-beginnings.ensures
 
 pub work_below-requires : goal.work_below-requires
 work_below-requires g c =

@@ -1,8 +1,8 @@
-use Rattle.share.proofs.Dealing.{deal_on, deal_end}
+use Rattle.std.proofs.Common.{◌++◌, length, drop, ap, ◌∙◌, rules}
+use Rattle.share.proofs.Turning.{dealt_awarded, part_and_more}
 use Rattle.share.proofs.pro_rata.Short.deal.Goals as goal
 
-pub loop-place-preserved : goal.loop-place-preserved
-loop-place-preserved c = deal_on _ _ _ _ _ _ _ _ c.loop-place.invariant c.loop-place-test.true c.loop-place.auto.given c.requires _ _ c.one_more-more.ensures.value c.part_of.ensures.value
-
 pub returns : goal.returns
-returns c = deal_end _ _ _ _ _ _ _ _ c.loop-place.invariant c.loop-place-test.false c.loop-place.auto.place-end
+returns c =
+    c.award_in_turn.ensures (part_and_more c.args.self.sum c.args.self.q) (λ size left r h k e. search rules)
+    ∙ ap (λ vs. vs ++ drop (length c.args.sizes.now) c.args.given.now) (dealt_awarded c.args.self.sum c.args.self.q c.args.sizes.now c.args.over)
