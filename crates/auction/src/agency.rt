@@ -92,7 +92,9 @@ impl Agency {
         })
     }
 
-    // That the stop meets every clause, or the first clause that it fails.
+    // That the stop meets every clause, or the first clause that it fails. A call of its own would cost
+    // more than the tests.
+    #[inline(always)]
     fn met(self, quotes: Quotes) -> Result<(), Clause>
         ensures { result ≡ unless_failed (failed_clause (as_buyer self.side self.stop) self.customer (seen self.side quotes.bid) (seen self.side quotes.best) (seen self.side quotes.offer)) tt }
     {

@@ -16,7 +16,7 @@ use script::answer::{Answer, answer_line};
 use script::lex::{Unread, words};
 use script::line::{MarketKind, ShareKind, Statement, statement_of};
 use session::state::Session;
-use std::alloc::AllocError;
+use std::alloc::{AllocError, Global};
 use std::io::Read;
 use std::process::ExitCode;
 use std::{env, fs};
@@ -76,25 +76,44 @@ fn unreadable(rt: &HostRuntime, line: Line<'_>) -> Stop {
     }
 }
 
+// Why a line makes no statement. It is small, for it is moved at each line; what is told of it is
+// made where the reading stops.
+#[derive(Drop)]
+enum NoStatement<'a> {
+    NoWords,
+    NoLegs(AllocError),
+    Unread(Line<'a>),
+}
+
+impl NoStatement<'_> {
+    #[cold]
+    #[inline(never)]
+    fn stop(self, rt: &HostRuntime) -> Stop {
+        match self {
+            NoStatement::NoWords => Stop::Failed(anyhow!("out of memory")),
+            NoStatement::NoLegs(error) => error.into(),
+            NoStatement::Unread(line) => unreadable(rt, line),
+        }
+    }
+}
+
 // The statement that a line makes, unless it is blank.
-fn read_line(rt: &HostRuntime, line: Line<'_>) -> Result<Option<Statement>, Stop> {
-    let words = match words(rt.alloc(), line.bytes) {
+fn read_line<'a>(heap: Global, line: Line<'a>) -> Result<Option<Statement>, NoStatement<'a>> {
+    let words = match words(heap, line.bytes) {
         Ok(words) => words,
-        Err(Unread::Memory) => return Err(Stop::Failed(anyhow!("out of memory"))),
+        Err(Unread::Memory) => return Err(NoStatement::NoWords),
         Err(Unread::Unknown { start, end }) => {
-            let unknown = Line {
-                bytes: &line.bytes[start..end],
-                ..line
-            };
-            return Err(unreadable(rt, unknown));
+            let bytes = &line.bytes[start..end];
+            return Err(NoStatement::Unread(Line { bytes, ..line }));
         }
     };
     if words.is_empty() {
         return Ok(None);
     }
-    match statement_of(rt.alloc(), &words)? {
-        Some(statement) => Ok(Some(statement)),
-        None => Err(unreadable(rt, line)),
+    match statement_of(heap, &words) {
+        Ok(Some(statement)) => Ok(Some(statement)),
+        Ok(None) => Err(NoStatement::Unread(line)),
+        Err(error) => Err(NoStatement::NoLegs(error)),
     }
 }
 
@@ -119,8 +138,10 @@ where
     M::Notice: Stated + Drop,
 {
     for line in lines {
-        let Some(statement) = read_line(rt, line)? else {
-            continue;
+        let statement = match read_line(rt.alloc(), line) {
+            Ok(Some(statement)) => statement,
+            Ok(None) => continue,
+            Err(why) => return Err(why.stop(rt)),
         };
         let Some(answer) = respond(&mut session, &statement) else {
             return Err(unreadable(rt, line));
@@ -159,8 +180,9 @@ fn headings<'a>(
     let mut calls = lines;
     // No `for`: the lines from a call on are handed on, and beside a `for` a copy would be stepped too.
     while let Some(line) = lines.next() {
-        if let Some(statement) = read_line(rt, line)? {
-            match setup.heading(&statement) {
+        match read_line(rt.alloc(), line) {
+            Ok(None) => {}
+            Ok(Some(statement)) => match setup.heading(&statement) {
                 Ok(()) => {}
                 Err(NotTaken::Call) => return Ok(calls),
                 Err(NotTaken::Again) => return Err(unreadable(rt, line)),
@@ -168,7 +190,8 @@ fn headings<'a>(
                     print_answer(rt, line, &statement, &Err(refusal))?;
                     return Err(Stop::Refused);
                 }
-            }
+            },
+            Err(why) => return Err(why.stop(rt)),
         }
         calls = lines;
     }

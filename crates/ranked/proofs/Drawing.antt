@@ -4,10 +4,6 @@ use Rattle.std.proofs.lemmas.List.{append_assoc, append-nil, drop_all, drop_more
 use Rattle.std.proofs.lemmas.List.Sums.{sum_by-cons, sum_by_more}
 use Rattle.std.proofs.lemmas.Bool.{cases_lt}
 use Rattle.std.specs.List.{AllZip, AllByRecursion}
-use Rattle.std.specs.Cmp.{IsTotalOrder}
-use Rattle.std.specs.Ordering.{is_le}
-use Rattle.std.specs.declared.cmp.Ordering.{Ordering}
-use Rattle.ranked.specs.Comparisons.{level, passed}
 use Rattle.ranked.specs.Draws.{Drawing, drawn}
 use Rattle.ranked.specs.Ranks.{InOrder}
 
@@ -81,15 +77,13 @@ module _ {X : Type 0} (contracts : X → ℕ) (reduced : X → ℕ → X) where
       drawn_each [] q = tt
       drawn_each (x ∷ xs) q = ((ranked x (min q (contracts x)), omega (arith, given_up x q)), drawn_each xs (q - min q (contracts x)))
 
-      module _ {cmp : R → R → Ordering} (total : IsTotalOrder cmp) (before : X → X → Bool) (compares : (x y : X) → before x y ≡ is_le (cmp (rank x) (rank y))) where
+      module _ (before : X → X → Bool) (level : (x y : X) → rank x ≡ rank y → before x y ≡ true) (passed : (x y z : X) → before x y ≡ true → before y z ≡ true → before x z ≡ true) where
         all_behind : (x y : X) → rank y ≡ rank x → (xs ys : List X) → AllZip Gives xs ys → AllByRecursion (λ z. before x z ≡ true) xs → AllByRecursion (λ z. before y z ≡ true) ys
         all_behind x y e [] [] p a = tt
         all_behind x y e [] (w ∷ ws) p a = elim p [ ]
         all_behind x y e (z ∷ zs) [] p a = elim p [ ]
         all_behind x y e (z ∷ zs) (w ∷ ws) p a =
-            let at = level total rank before compares in
-            let on = passed total rank before compares in
-            (on y x w (at y x e) (on x z w a.0 (at z w (sym p.0.0))), all_behind x y e zs ws p.1 a.1)
+            (passed y x w (level y x e) (passed x z w a.0 (level z w (sym p.0.0))), all_behind x y e zs ws p.1 a.1)
 
         still_ordered : (xs ys : List X) → AllZip Gives xs ys → InOrder before xs → InOrder before ys
         still_ordered [] [] p o = tt

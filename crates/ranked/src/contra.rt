@@ -6,7 +6,7 @@ ghost use Rattle.ranked.specs.Fields.{customers_same, numbers_same, prices_same,
 ghost use Rattle.std.proofs.Common.{rules};
 
 use crate::drawn::Drawn;
-use crate::rank::Ranked;
+use crate::rank::ByRank;
 use std::cmp::Reverse;
 
 #[derive(Clone, Copy, Default)]
@@ -19,7 +19,7 @@ pub struct ContraItem {
     pub counted: u32,
 }
 
-impl Ranked for ContraItem {
+impl ByRank for ContraItem {
     type Rank = (i32, Reverse<bool>, u32);
 
     ghost rank = { contra_rank };

@@ -3,7 +3,7 @@ ghost use Rattle.ranked.specs.Fills.{fill_before, fill_rank};
 ghost use Rattle.std.specs.Ordering.{int_cmp, nat_cmp};
 ghost use Rattle.ranked.specs.Fields.{by_user, numbers_same, prices_same, same_fields};
 
-use crate::rank::Ranked;
+use crate::rank::ByRank;
 
 #[derive(Clone, Copy, Default)]
 pub struct Fill {
@@ -14,7 +14,7 @@ pub struct Fill {
     pub size: u32,
 }
 
-impl Ranked for Fill {
+impl ByRank for Fill {
     type Rank = (u32, i32, u32);
 
     ghost rank = { fill_rank };

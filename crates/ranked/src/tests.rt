@@ -4,6 +4,7 @@ use crate::contra::ContraItem;
 use crate::drawn::draw;
 use crate::fill::Fill;
 use crate::list::Ordered;
+use crate::rank::Ranked;
 use crate::statement::statement;
 use std::test::Fail;
 
@@ -94,4 +95,48 @@ fn draws_from_the_front(rt: HostRuntime) {
         (0, 0, 2, 9)
     );
     assert_eq!(rt; draw(&mut items, 20), 11);
+}
+
+// An order that compares by a test of its own, a higher price first.
+#[derive(Clone, Copy)]
+struct Bid {
+    id: u32,
+    cents: u32,
+}
+
+impl Ranked for Bid {
+    ghost use Rattle.std.specs.Prelude.{ℕ, nat_le};
+    ghost use Rattle.std.proofs.Common.{rules, sym};
+    ghost use Rattle.ranked.specs.Fields.{last_agreed, last_passed};
+
+    ghost Rank = { ℕ };
+
+    ghost rank = { λ x. x.cents };
+
+    ghost before = { λ x y. nat_le y.cents x.cents };
+
+    ghost compared = { Prim.search rules };
+
+    ghost agreed = { λ x y e f. last_agreed x.cents y.cents f e };
+
+    ghost level = { Prim.search rules };
+
+    ghost passed = { λ x y z e f. last_passed z.cents y.cents x.cents f e };
+
+    fn is_before(&self, other: &Bid) -> bool {
+        self.cents >= other.cents
+    }
+}
+
+#[test]
+fn ranks_by_a_test_of_its_own(rt: HostRuntime) {
+    let none = Bid { id: 0, cents: 0 };
+    let mut items = [none; 3];
+    let mut list = Ordered::new(&mut items);
+    assert!(rt; list.insert(Bid { id: 1, cents: 300 }).is_ok());
+    assert!(rt; list.insert(Bid { id: 2, cents: 310 }).is_ok());
+    assert!(rt; list.insert(Bid { id: 3, cents: 300 }).is_ok());
+    let records = list.as_slice();
+    assert!(rt; records.len() == 3);
+    assert_eq!(rt; (records[0].id, records[1].id, records[2].id), (2, 1, 3));
 }

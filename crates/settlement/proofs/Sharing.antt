@@ -17,7 +17,7 @@ use Rattle.settlement.specs.Groups.{GroupsFit}
 use Rattle.settlement.specs.Writes.{Given, HasRoom}
 use Rattle.settlement.specs.declared.filling.Filling.{Filling}
 
-answered_ok : {A F : Type 0} (r : Result A (Refusal F)) (a : A) → said r ≡ answered a → is_ok r ≡ true
+pub answered_ok : {A F : Type 0} (r : Result A (Refusal F)) (a : A) → said r ≡ answered a → is_ok r ≡ true
 answered_ok (Ok x) a e = refl
 answered_ok (Err f) a e = let z : ◌≡◌ {A = ℕ} 0 1 = cc in absurd (let b : ⊥ = omega arith in b)
 

@@ -1,6 +1,7 @@
--- First come: the laws of its awards.
-use Rattle.std.specs.Prelude.{◌≡◌, ℕ, ◌-◌, min, List, [], ◌∷◌, length, refl}
-use Rattle.std.proofs.Common.{arith}
+-- First come: the laws of its awards, and the step of its loop.
+use Rattle.std.specs.Prelude.{◌≡◌, ℕ, ◌+◌, ◌-◌, ◌<◌, ◌≤◌, min, List, [], ◌∷◌, ◌++◌, length, take, drop, slice_index, slice_set, refl}
+use Rattle.std.proofs.Common.{sym, ap, arith}
+use Rattle.share.specs.Writing.{write_on, write_end}
 use Rattle.share.specs.Awards.{Within, total}
 use Rattle.share.specs.Filling.{first_come}
 
@@ -18,3 +19,20 @@ pub first_spent : (sizes : List ℕ) (q : ℕ) → total (first_come sizes q) �
 unfolding first_come
 first_spent [] q = omega arith
 first_spent (s ∷ ss) q = omega (arith, first_spent ss (q - min s q))
+
+first_step : (s q a : ℕ) (ys : List ℕ) → a ≡ min s q → first_come (s ∷ ys) q ≡ a ∷ first_come ys (q - a)
+unfolding first_come
+first_step s q a ys e = ap (λ n. n ∷ first_come ys (q - n)) (sym e)
+
+first_none : (q : ℕ) → first_come [] q ≡ []
+unfolding first_come
+first_none q = refl
+
+-- xs are the sizes, ws the awards so far over the list as it was
+module _ (xs ws old : List ℕ) (q i left : ℕ) (inv : (take i ws ++ first_come (drop i xs) left ≡ first_come xs q) × (drop (length xs) ws ≡ drop (length xs) old)) where
+  pub fill_on : i < length xs → length ws ≡ length old → length xs ≤ length old → (a : ℕ) → a ≡ min (slice_index xs i) left → (take (i + 1) (slice_set ws i a) ++ first_come (drop (i + 1) xs) (left - a) ≡ first_come xs q) × (drop (length xs) (slice_set ws i a) ≡ drop (length xs) old)
+  fill_on h long room a e =
+      write_on (λ ys. first_come ys left) (λ ys. first_come ys (left - a)) xs ws old (first_come xs q) i a inv h (omega arith) (λ ys. first_step (slice_index xs i) left a ys e)
+
+  pub fill_end : length xs ≤ i → i ≤ length xs → ws ≡ first_come xs q ++ drop (length xs) old
+  fill_end h k = write_end (λ ys. first_come ys left) xs ws old (first_come xs q) i inv (first_none left) (omega arith)

@@ -19,4 +19,4 @@ returns-clause-drawing g c =
     let d = g.T.Drawn.reduced in
     let i = c.loop-item.invariant in
     let k = c.loop-item-test.false in
-    drawing_is n d g.met.T.Drawn.left g.T.Ranked.rank g.met.T.Drawn.ranked g.met.T.Rank.Ord.total g.T.Ranked.before g.met.T.Ranked.compares _ _ _ _ (lesser_drawn n d _ _ _ _ _ i.0 i.1 i.2 k) (all_drawn n d _ _ _ _ _ i.0 i.1 i.2 (omega arith) k)
+    drawing_is n d g.met.T.Drawn.left g.T.Ranked.rank g.met.T.Drawn.ranked g.T.Ranked.before g.met.T.Ranked.level g.met.T.Ranked.passed _ _ _ _ (lesser_drawn n d _ _ _ _ _ i.0 i.1 i.2 k) (all_drawn n d _ _ _ _ _ i.0 i.1 i.2 (omega arith) k)
