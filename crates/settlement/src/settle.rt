@@ -13,7 +13,7 @@ ghost use Rattle.settlement.specs.Settles.{over, settle_said};
 ghost use Rattle.settlement.specs.Shows.{FillTurns};
 
 use crate::counts::Counts;
-use crate::filling::MOST_FILLS;
+use crate::filling::{Filling, MOST_FILLS};
 use crate::settlement::Settlement;
 use crate::show::show_all;
 use auction::record::Auction;
@@ -50,11 +50,12 @@ fn fill_and_show<S: ShareRule>(
         rule,
         items: &*items,
     };
-    let mut written = settlement.fills();
+    let mut filling = Filling::new(auction.size());
+    settlement.fill(&mut filling);
     show_all(side, items);
-    show_all(side, written.as_mut_slice());
-    fills[..written.len()].copy_from_slice(&written);
-    written.len()
+    show_all(side, filling.fills.as_mut_slice());
+    fills[..filling.fills.len()].copy_from_slice(&filling.fills);
+    filling.fills.len()
 }
 
 // Settles an auction against the orders and responses that rest, by a share rule. Writes the contra
