@@ -1,22 +1,8 @@
--- Picking items out of a list, one after the other.
-use Rattle.std.proofs.Common.{◌≡◌, ℕ, ◌+◌, ◌<◌, Bool, true, false, cond, List, [], ◌∷◌, ◌++◌, length, get_or, take, filter, sym, refl, ap, ◌∙◌}
-use Rattle.std.proofs.lemmas.List.Elements.{filter-append}
+-- Picking the first of each kind out of a list, one after the other.
+use Rattle.std.proofs.Common.{◌≡◌, ℕ, ◌+◌, ◌<◌, Bool, true, false, cond, List, [], ◌∷◌, ◌++◌, length, get_or, take, sym, refl, ap, ◌∙◌}
 use Rattle.std.proofs.lemmas.List.{append_assoc, append-nil, take_more}
 use Rattle.std.specs.List.{list_any}
 use Rattle.contra.specs.Kinds.{firsts, some}
-
--- the items that pass, one place on
-module _ {X : Type 0} (p : X → Bool) (xs found : List X) (i : ℕ) (inv : found ≡ filter p (take i xs)) (d : X) (h : i < length xs) where
-  one_on : filter p (take (i + 1) xs) ≡ found ++ filter p (get_or xs i d ∷ [])
-  one_on =
-      ap (filter p) (take_more xs i d h)
-      ∙ (filter-append p (take i xs) (get_or xs i d ∷ []) ∙ ap (λ l. l ++ filter p (get_or xs i d ∷ [])) (sym inv))
-
-  pub pick_on : true ≡ p (get_or xs i d) → found ++ get_or xs i d ∷ [] ≡ filter p (take (i + 1) xs)
-  pick_on e = sym (one_on ∙ ap (λ b. found ++ cond b (get_or xs i d ∷ []) []) (sym e))
-
-  pub pass_on : false ≡ p (get_or xs i d) → found ≡ filter p (take (i + 1) xs)
-  pass_on e = sym (one_on ∙ (ap (λ b. found ++ cond b (get_or xs i d ∷ []) []) (sym e) ∙ append-nil found))
 
 -- the first items of each kind, with one item more
 firsts_more : {X : Type 0} (same : X → X → Bool) (seen xs : List X) (x : X) → firsts same seen (xs ++ x ∷ []) ≡ firsts same seen xs ++ cond (some (same x) (seen ++ xs)) [] (x ∷ [])

@@ -1,11 +1,7 @@
--- Which items a test picks, and which items are alike.
+-- Which items are alike.
 use Rattle.std.specs.Prelude.{◌≡◌, Bool}
 use Rattle.ranked.specs.declared.contra.ContraItem.{ContraItem}
 
--- what a test answers is p
-abbrev pub Decides : (ContraItem → Bool → Type 0) → (ContraItem → Bool) → Type 0
-Decides says p = (x : ContraItem) (b : Bool) → says x b → b ≡ p x
-
--- what it answers of two items is `same`
+-- what a test answers of two items is `same`
 abbrev pub Likens : (ContraItem → ContraItem → Bool → Type 0) → (ContraItem → ContraItem → Bool) → Type 0
 Likens says same = (x y : ContraItem) (b : Bool) → says x y b → b ≡ same x y

@@ -1,32 +1,16 @@
-// Picks items out of a list of up to 128.
-ghost use Rattle.std.specs.Prelude.{◌≡◌, ◌≤◌, Bool, [], length, filter};
+// Picks the first of each kind out of a list of up to 128.
+ghost use Rattle.std.specs.Prelude.{◌≡◌, ◌≤◌, Bool, [], length};
 ghost use Rattle.std.specs.List.{list_any};
-ghost use Rattle.std.specs.Fn.{FnReturnsAt, FnReturnsAtPair};
+ghost use Rattle.std.specs.Fn.{FnReturnsAtPair};
 ghost use Rattle.ranked.specs.declared.contra.ContraItem.{ContraItem as Item};
 ghost use Rattle.contra.specs.Kinds.{firsts};
-ghost use Rattle.settlement.specs.Picks.{Decides, Likens};
+ghost use Rattle.settlement.specs.Picks.{Likens};
 
 use arrayvec::ArrayVec;
 use ranked::contra::ContraItem;
 
 // So many contra items there may be. They lie in the value itself: a settlement has no heap.
 pub(crate) type Items = ArrayVec<ContraItem, 128>;
-
-// The items that pass a test, in their order. That they are few is asked: a type that says it of a
-// slice would have to be made at each call, and of vectors too, which say it already.
-pub(crate) fn picked<P: Fn(&ContraItem) -> bool>(items: &[ContraItem], passes: P) -> Items
-    requires few { length items.now ≤ 128 }
-    requires always { P.IsAlwaysCallable passes }
-    ensures { (p : Item → Bool) → Decides (FnReturnsAt P.Fn passes) p → result.items ≡ filter p items.now }
-{
-    let mut found = ArrayVec::new();
-    for item in items {
-        if passes(item) {
-            found.push(*item);
-        }
-    }
-    found
-}
 
 // Whether an item is like one of the earlier ones.
 fn is_seen<A: Fn(&ContraItem, &ContraItem) -> bool>(
@@ -40,7 +24,9 @@ fn is_seen<A: Fn(&ContraItem, &ContraItem) -> bool>(
     earlier.iter().any(|other| alike(item, other))
 }
 
-// The first item of each kind, in their order. Items are of one kind where they are alike.
+// The first item of each kind, in their order. Items are of one kind where they are alike. That they
+// are few is asked: a type that says it of a slice would have to be made at each call, and of vectors
+// too, which say it already.
 pub(crate) fn firsts<A: Fn(&ContraItem, &ContraItem) -> bool>(
     items: &[ContraItem],
     alike: A,

@@ -8,6 +8,8 @@ ghost use Rattle.contra.specs.Turns.{ItemTurns};
 ghost use Rattle.allocation.specs.Deals.{deal_of};
 ghost use Rattle.allocation.specs.Fillings.{fills_of};
 ghost use Rattle.allocation.specs.Outcomes.{Outcome, auction_fills, shown_fills, shown_items};
+ghost use Rattle.ranked.specs.Contras.{contra_before};
+ghost use Rattle.ranked.specs.Ranks.{InOrder};
 ghost use Rattle.settlement.specs.Groups.{LevelsFit};
 ghost use Rattle.settlement.specs.Settles.{over, settle_said};
 ghost use Rattle.settlement.specs.Shows.{FillTurns};
@@ -27,7 +29,7 @@ use terms::refusal::Refusal;
 use terms::table::Table;
 
 // Fills an auction from its items, shows both lists in true prices, and answers how many fills
-// it wrote. That the items are few is asked, as `picked` does.
+// it wrote. That the items are few and in order is asked, as `contra_items` answers.
 fn fill_and_show<S: ShareRule>(
     auction: &Auction,
     rule: &S,
@@ -36,6 +38,7 @@ fn fill_and_show<S: ShareRule>(
 ) -> usize
     requires few { length items.old ≤ 128 }
     requires fits { LevelsFit items.old }
+    requires order { InOrder contra_before items.old }
     requires most { length (fills_of (S.ShareRule.awards rule.now) (deal_of auction.now.row) items.old) ≤ 257 }
     requires room { 257 ≤ length fills.old }
     requires turns { AllByRecursion (ItemTurns auction.now.row.side) items.old }

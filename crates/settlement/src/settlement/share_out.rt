@@ -17,11 +17,11 @@ impl<S> Settlement<'_, S> {
     fn deal(&self, groups: &Groups, awards: &[u32], filling: &mut Filling)
         requires each { length groups.now.leaders.items ≡ length awards.now }
         requires enough { total awards.now ≤ filling.old.left }
-        requires room { HasRoom (part_fills (deal_of self.now.auction.now.row) (dealt groups.now.others.items groups.now.leaders.items awards.now)) filling.old.fills.items }
-        ensures { Given (deal_of self.now.auction.now.row) (dealt groups.now.others.items groups.now.leaders.items awards.now) filling.old filling.new }
+        requires room { HasRoom (part_fills (deal_of self.now.auction.now.row) (dealt groups.now.others.now groups.now.leaders.items awards.now)) filling.old.fills.items }
+        ensures { Given (deal_of self.now.auction.now.row) (dealt groups.now.others.now groups.now.leaders.items awards.now) filling.old filling.new }
     {
         for (leader, award) in groups.leaders.iter().zip(awards.iter()) {
-            self.give_in_turn(&groups.led_by(leader), *award, filling);
+            self.give_group(groups, leader, *award, filling);
         }
     }
 }
@@ -29,10 +29,10 @@ impl<S> Settlement<'_, S> {
 impl<S: ShareRule> Settlement<'_, S> {
     // Gives the groups up to q contracts.
     pub(super) fn share_out(&self, groups: &Groups, q: u32, filling: &mut Filling)
-        requires fits { GroupsFit groups.now.others.items }
+        requires fits { GroupsFit groups.now.others.now }
         requires enough { q ≤ filling.old.left }
-        requires room { HasRoom (part_fills (deal_of self.now.auction.now.row) (shared (S.ShareRule.awards self.now.rule.now) groups.now.others.items q)) filling.old.fills.items }
-        ensures given { Given (deal_of self.now.auction.now.row) (shared (S.ShareRule.awards self.now.rule.now) groups.now.others.items q) filling.old filling.new }
+        requires room { HasRoom (part_fills (deal_of self.now.auction.now.row) (shared (S.ShareRule.awards self.now.rule.now) groups.now.others.now q)) filling.old.fills.items }
+        ensures given { Given (deal_of self.now.auction.now.row) (shared (S.ShareRule.awards self.now.rule.now) groups.now.others.now q) filling.old filling.new }
         ensures most { filling.old.left ≤ filling.new.left + q }
     {
         let sizes = groups.sizes();

@@ -10,6 +10,6 @@ use Rattle.settlement.proofs.settlement.Settlement.deal.Given as goal
 abbrev pub invariant-loop-leader : goal.invariant-loop-leader
 invariant-loop-leader g l =
     (length (iter_rest (zip_first l.leader-iterator)) ≡ length (iter_rest (zip_second l.leader-iterator)))
-    × (l.filling.fills.items ++ part_fills (deal_of l.self.auction.now.row) (dealt l.groups.others.items (iter_rest (zip_first l.leader-iterator)) (iter_rest (zip_second l.leader-iterator))) ≡ l.initial.filling.fills.items ++ part_fills (deal_of l.self.auction.now.row) (dealt l.groups.others.items l.groups.leaders.items l.awards))
-    × (l.filling.left + total given_in (dealt l.groups.others.items l.groups.leaders.items l.awards) ≡ l.initial.filling.left + total given_in (dealt l.groups.others.items (iter_rest (zip_first l.leader-iterator)) (iter_rest (zip_second l.leader-iterator))))
+    × (l.filling.fills.items ++ part_fills (deal_of l.self.auction.now.row) (dealt l.groups.others.now (iter_rest (zip_first l.leader-iterator)) (iter_rest (zip_second l.leader-iterator))) ≡ l.initial.filling.fills.items ++ part_fills (deal_of l.self.auction.now.row) (dealt l.groups.others.now l.groups.leaders.items l.awards))
+    × (l.filling.left + total given_in (dealt l.groups.others.now l.groups.leaders.items l.awards) ≡ l.initial.filling.left + total given_in (dealt l.groups.others.now (iter_rest (zip_first l.leader-iterator)) (iter_rest (zip_second l.leader-iterator))))
     × (share.total (iter_rest (zip_second l.leader-iterator)) ≤ l.filling.left)
