@@ -1,10 +1,9 @@
 -- Items that are given contracts in turn.
-use Rattle.std.proofs.Common.{◌≡◌, ◌≢◌, ℕ, ◌+◌, ◌-◌, ◌<◌, ◌≤◌, min, Bool, true, false, List, [], ◌∷◌, ◌++◌, length, get_or, drop, filter, pos, refl, ap, ◌∙◌, arith}
+use Rattle.std.proofs.Common.{◌≡◌, ◌≢◌, ◌==◌, ℕ, ◌+◌, ◌-◌, ◌<◌, ◌≤◌, min, Bool, true, false, List, [], ◌∷◌, ◌++◌, length, get_or, drop, filter, pos, refl, ap, ◌∙◌, arith}
 use Rattle.std.proofs.lemmas.List.{drop_all, drop_more}
 use Rattle.ranked.specs.declared.contra.ContraItem.{ContraItem}
 use Rattle.ranked.specs.declared.fill.Fill.{Fill}
 use Rattle.std.proofs.lemmas.Bool.Decides.{nat_tests}
-use Rattle.contra.specs.Kinds.{same_user}
 use Rattle.allocation.proofs.Sums.{total_none, total_step}
 use Rattle.allocation.specs.Deals.{Deal}
 use Rattle.allocation.specs.Fillings.{part_fill, part_fills, unless_empty}
@@ -78,8 +77,11 @@ module _ {X : Type 0} (p : X → Bool) (xs : List X) (i : ℕ) (d : X) (h : i < 
 pub none_passes : {X : Type 0} (p : X → Bool) (xs : List X) (i : ℕ) → length xs ≤ i → filter p (drop i xs) ≡ []
 none_passes p xs i h = ap (filter p) (drop_all i xs h)
 
-pub user_same : (x y : ContraItem) → x.user ≡ y.user → same_user x y ≡ true
-user_same x y e = grind (arith, nat_tests)
+abbrev pub same_to : ℕ → ContraItem → Bool
+same_to user x = user == x.user
 
-pub user_other : (x y : ContraItem) → x.user ≢ y.user → same_user x y ≡ false
-user_other x y e = grind (arith, nat_tests)
+pub user_same : (user : ℕ) (x : ContraItem) → user ≡ x.user → same_to user x ≡ true
+user_same user x e = grind (arith, nat_tests)
+
+pub user_other : (user : ℕ) (x : ContraItem) → user ≢ x.user → same_to user x ≡ false
+user_other user x e = grind (arith, nat_tests)

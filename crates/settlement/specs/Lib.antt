@@ -1,5 +1,4 @@
 pub mod Writes
-pub mod Picks
 pub mod Ordered
 pub mod Groups
 pub mod Shows

@@ -2,7 +2,8 @@
 ghost use Rattle.std.specs.Prelude.{◌≡◌, ◌+◌, ◌≤◌, ◌++◌, min};
 ghost use Rattle.allocation.specs.Deals.{deal_of};
 ghost use Rattle.allocation.specs.Fillings.{own_fill, part_fill, part_fills, unless_empty};
-ghost use Rattle.allocation.specs.Parts.{come, group_of, part_of};
+ghost use Rattle.allocation.specs.Parts.{come, part_of};
+ghost use Rattle.settlement.specs.Groups.{of_user};
 ghost use Rattle.settlement.specs.Writes.{Given, HasRoom};
 
 use super::Settlement;
@@ -68,21 +69,15 @@ impl<S> Settlement<'_, S> {
         }
     }
 
-    // Gives the items of a leader's group in turn up to q contracts.
-    pub(super) fn give_group(
-        &self,
-        groups: &Groups,
-        leader: &ContraItem,
-        q: u32,
-        filling: &mut Filling,
-    )
+    // Gives the items of a user's group in turn up to q contracts.
+    pub(super) fn give_group(&self, groups: &Groups, user: u32, q: u32, filling: &mut Filling)
         requires enough { q ≤ filling.old.left }
-        requires room { HasRoom (part_fills (deal_of self.now.auction.now.row) (come (group_of groups.now.others.now leader.now) q)) filling.old.fills.items }
-        ensures { Given (deal_of self.now.auction.now.row) (come (group_of groups.now.others.now leader.now) q) filling.old filling.new }
+        requires room { HasRoom (part_fills (deal_of self.now.auction.now.row) (come (of_user groups.now.others.now user) q)) filling.old.fills.items }
+        ensures { Given (deal_of self.now.auction.now.row) (come (of_user groups.now.others.now user) q) filling.old filling.new }
     {
         let mut rest = q;
         for item in groups.others {
-            if leader.user == item.user {
+            if user == item.user {
                 rest -= self.give(item, rest, filling);
             }
         }

@@ -112,7 +112,7 @@ impl<S: ShareRule> Settlement<'_, S> {
         let left = filling.left;
         self.give_in_turn(customers, left, filling);
         let groups = Groups::among(others);
-        let kept = self.auction.guarantee(filling.left, groups.leaders.len());
+        let kept = self.auction.guarantee(filling.left, groups.users.len());
         let rest = filling.left - kept;
         self.share_out(&groups, rest, filling);
         let own = filling.left;
