@@ -1,4 +1,5 @@
 pub mod Picking
+pub mod Ordering
 pub mod Writing
 pub mod Giving
 pub mod Grouping

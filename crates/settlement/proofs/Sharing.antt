@@ -13,7 +13,8 @@ use Rattle.allocation.specs.Deals.{Deal}
 use Rattle.allocation.specs.Fillings.{part_fills}
 use Rattle.allocation.specs.Laws.{Shares}
 use Rattle.allocation.specs.Parts.{Part, dealt, group_size, group_sizes, leaders_in, shared}
-use Rattle.settlement.specs.Groups.{GroupsFit}
+use Rattle.settlement.specs.Groups.{GroupsFit, dealt_to, users_in}
+use Rattle.settlement.proofs.Dealing.{dealt_users}
 use Rattle.settlement.specs.Writes.{Given, HasRoom}
 use Rattle.settlement.specs.declared.filling.Filling.{Filling}
 
@@ -56,14 +57,16 @@ module _ (awards : List ℕ → ℕ → List ℕ) (shares : Shares awards) (othe
   pub award_most : share.total (take n given) ≤ q
   award_most = omega (arith, ap share.total awarded, shares.spent (group_sizes others) q)
 
-  module _ (leaders : List ContraItem) (led : leaders ≡ leaders_in others) where
-    all_dealt : dealt others leaders (take n given) ≡ shared awards others q
-    all_dealt = ap (λ l. dealt others l (take n given)) led ∙ ap (dealt others (leaders_in others)) awarded
+  module _ (users : List ℕ) (led : users ≡ users_in others) where
+    all_dealt : dealt_to others users (take n given) ≡ shared awards others q
+    all_dealt =
+        ap (λ l. dealt_to others l (take n given)) led
+        ∙ (dealt_users others (leaders_in others) (take n given) ∙ ap (dealt others (leaders_in others)) awarded)
 
-    pub share_room : (d : Deal) (before : List Fill) → HasRoom (part_fills d (shared awards others q)) before → HasRoom (part_fills d (dealt others leaders (take n given))) before
+    pub share_room : (d : Deal) (before : List Fill) → HasRoom (part_fills d (shared awards others q)) before → HasRoom (part_fills d (dealt_to others users (take n given))) before
     share_room d before h = omega (arith, ap (λ l. length (part_fills d l)) all_dealt)
 
-    pub share_given : (d : Deal) (before now : Filling) → Given d (dealt others leaders (take n given)) before now → Given d (shared awards others q) before now × (before.left ≤ now.left + q)
+    pub share_given : (d : Deal) (before now : Filling) → Given d (dealt_to others users (take n given)) before now → Given d (shared awards others q) before now × (before.left ≤ now.left + q)
     share_given d before now f =
         let P : List Part → Type 0 = λ ps. Given d ps before now in
         let g = subst P all_dealt f in

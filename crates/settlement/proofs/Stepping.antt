@@ -1,16 +1,39 @@
 -- The levels, one after the other.
-use Rattle.std.proofs.Common.{◌≡◌, ℕ, ◌-◌, ◌<◌, ◌≤◌, ltb, List, [], ◌∷◌, ◌++◌, length, sym, ap, ◌∙◌, arith}
-use Rattle.std.proofs.lemmas.List.{append-nil}
+use Rattle.std.proofs.Common.{◌≡◌, ℕ, ◌+◌, ◌-◌, ◌<◌, ◌≤◌, ltb, Bool, true, false, not, ◌&&◌, cond, List, [], ◌∷◌, ◌++◌, length, get_or, take, drop, filter, sym, ap, ◌∙◌, arith}
+use Rattle.std.proofs.lemmas.List.{append-nil, drop_all, drop_more, take_more}
 use Rattle.std.proofs.lemmas.Bool.{cond-false, cond-true, le-ltb, lt-ltb}
-use Rattle.std.specs.List.{flat_map}
+use Rattle.std.specs.List.{flat_map, list_any}
 use Rattle.ranked.specs.declared.contra.ContraItem.{ContraItem}
 use Rattle.ranked.specs.declared.fill.Fill.{Fill}
 use Rattle.allocation.specs.Deals.{Deal}
 use Rattle.allocation.specs.Fillings.{fills_of, level_fills}
-use Rattle.allocation.specs.Levels.{Level, below_in, items_at, levels_from, spent_at, stop_in}
+use Rattle.contra.specs.Kinds.{firsts, same_level, some}
+use Rattle.allocation.specs.Levels.{Level, beginnings, below_in, below_stop, items_at, levels_from, spent_at, stop_in}
 use Rattle.settlement.specs.Writes.{HasRoom, Worked}
 use Rattle.settlement.specs.declared.filling.Filling.{Filling}
 use Rattle.settlement.proofs.Writing.{end_same, step_room, step_same}
+
+kept_first : {X : Type 0} (p : X → Bool) (b : Bool) (x : X) (ys : List X) → (p x && not b) ≡ true → filter p (cond b ys (x ∷ ys)) ≡ x ∷ filter p ys
+kept_first p b x ys e = grind arith
+
+passed_first : {X : Type 0} (p : X → Bool) (b : Bool) (x : X) (ys : List X) → (p x && not b) ≡ false → filter p (cond b ys (x ∷ ys)) ≡ filter p ys
+passed_first p b x ys e = grind arith
+
+-- the item at place i begins a level below the stop, or it doesn't
+module _ (d : Deal) (items : List ContraItem) (i : ℕ) (x : ContraItem) (h : i < length items) where
+  firsts_at : firsts same_level (take i items) (drop i items) ≡ cond (some (same_level (get_or items i x)) (take i items)) (firsts same_level (take (i + 1) items) (drop (i + 1) items)) (get_or items i x ∷ firsts same_level (take (i + 1) items) (drop (i + 1) items))
+  unfolding firsts
+  firsts_at =
+      ap (firsts same_level (take i items)) (drop_more items i x h)
+      ∙ ap (λ l. cond (some (same_level (get_or items i x)) (take i items)) (firsts same_level l (drop (i + 1) items)) (get_or items i x ∷ firsts same_level l (drop (i + 1) items))) (sym (take_more items i x h))
+
+  pub begins : true ≡ below_stop d (get_or items i x) && not (list_any (same_level (get_or items i x)) (take i items)) → beginnings d (take i items) (drop i items) ≡ get_or items i x ∷ beginnings d (take (i + 1) items) (drop (i + 1) items)
+  unfolding some
+  begins e = ap (filter (below_stop d)) firsts_at ∙ kept_first (below_stop d) _ _ _ (sym e)
+
+  pub begins_none : false ≡ below_stop d (get_or items i x) && not (list_any (same_level (get_or items i x)) (take i items)) → beginnings d (take i items) (drop i items) ≡ beginnings d (take (i + 1) items) (drop (i + 1) items)
+  unfolding some
+  begins_none e = ap (filter (below_stop d)) firsts_at ∙ passed_first (below_stop d) _ _ _ (sym e)
 
 module _ (awards : List ℕ → ℕ → List ℕ) (d : Deal) (items : List ContraItem) where
   levels_spent : (ks : List ContraItem) (left : ℕ) → left ≡ 0 → levels_from awards d items ks left ≡ []
@@ -49,10 +72,14 @@ module _ (awards : List ℕ → ℕ → List ℕ) (d : Deal) (items : List Contr
           ap (λ n. now'.fills.items ++ rest_fills ks' n) w.left
           ∙ step_same [] (fills_of awards d items) now.fills.items (rest_fills ks now.left) same _ _ (next h) now'.fills.items w.after
 
-      pub level_passed : now.left ≤ 0 → now.fills.items ++ rest_fills ks' now.left ≡ fills_of awards d items
-      level_passed h =
-          let z : now.left ≡ 0 = omega arith in
-          ap (λ ls. now.fills.items ++ flat_map (level_fills d) ls) (levels_spent ks' now.left z ∙ sym (levels_spent ks now.left z)) ∙ same
+    pub level_passed : (ks' : List ContraItem) → now.left ≤ 0 → now.fills.items ++ rest_fills ks' now.left ≡ fills_of awards d items
+    level_passed ks' h =
+        let z : now.left ≡ 0 = omega arith in
+        ap (λ ls. now.fills.items ++ flat_map (level_fills d) ls) (levels_spent ks' now.left z ∙ sym (levels_spent ks now.left z)) ∙ same
+
+    -- no level begins here
+    pub level_none : (ks' : List ContraItem) → ks ≡ ks' → now.fills.items ++ rest_fills ks' now.left ≡ fills_of awards d items
+    level_none ks' e = ap (λ l. now.fills.items ++ rest_fills l now.left) (sym e) ∙ same
 
     module _ (none : ks ≡ []) where
       stop_next : 0 < now.left → rest_fills ks now.left ≡ level_fills d (last now.left) ++ []
@@ -68,3 +95,7 @@ module _ (awards : List ℕ → ℕ → List ℕ) (d : Deal) (items : List Contr
 
       pub all_done : now.left ≤ 0 → now.fills.items ≡ fills_of awards d items
       all_done h = end_same [] (fills_of awards d items) now.fills.items (rest_fills ks now.left) same (ap (flat_map (level_fills d)) (levels_spent ks now.left (omega arith)))
+
+pub none_begin : (d : Deal) (items : List ContraItem) (i : ℕ) → length items ≤ i → beginnings d (take i items) (drop i items) ≡ []
+unfolding firsts
+none_begin d items i h = ap (λ l. filter (below_stop d) (firsts same_level (take i items) l)) (drop_all i items h)

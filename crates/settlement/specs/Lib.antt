@@ -1,5 +1,5 @@
 pub mod Writes
-pub mod Picks
+pub mod Ordered
 pub mod Groups
 pub mod Shows
 pub mod Settles

@@ -4,7 +4,6 @@
 pub mod counts;
 mod filling;
 mod group;
-mod pick;
 pub mod settle;
 mod settlement;
 mod show;

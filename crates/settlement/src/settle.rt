@@ -8,12 +8,14 @@ ghost use Rattle.contra.specs.Turns.{ItemTurns};
 ghost use Rattle.allocation.specs.Deals.{deal_of};
 ghost use Rattle.allocation.specs.Fillings.{fills_of};
 ghost use Rattle.allocation.specs.Outcomes.{Outcome, auction_fills, shown_fills, shown_items};
+ghost use Rattle.ranked.specs.Contras.{contra_before};
+ghost use Rattle.ranked.specs.Ranks.{InOrder};
 ghost use Rattle.settlement.specs.Groups.{LevelsFit};
 ghost use Rattle.settlement.specs.Settles.{over, settle_said};
 ghost use Rattle.settlement.specs.Shows.{FillTurns};
 
 use crate::counts::Counts;
-use crate::filling::MOST_FILLS;
+use crate::filling::{Filling, MOST_FILLS};
 use crate::settlement::Settlement;
 use crate::show::show_all;
 use auction::record::Auction;
@@ -27,7 +29,7 @@ use terms::refusal::Refusal;
 use terms::table::Table;
 
 // Fills an auction from its items, shows both lists in true prices, and answers how many fills
-// it wrote. That the items are few is asked, as `picked` does.
+// it wrote. That the items are few and in order is asked, as `contra_items` answers.
 fn fill_and_show<S: ShareRule>(
     auction: &Auction,
     rule: &S,
@@ -36,6 +38,7 @@ fn fill_and_show<S: ShareRule>(
 ) -> usize
     requires few { length items.old ≤ 128 }
     requires fits { LevelsFit items.old }
+    requires order { InOrder contra_before items.old }
     requires most { length (fills_of (S.ShareRule.awards rule.now) (deal_of auction.now.row) items.old) ≤ 257 }
     requires room { 257 ≤ length fills.old }
     requires turns { AllByRecursion (ItemTurns auction.now.row.side) items.old }
@@ -50,11 +53,12 @@ fn fill_and_show<S: ShareRule>(
         rule,
         items: &*items,
     };
-    let mut written = settlement.fills();
+    let mut filling = Filling::new(auction.size());
+    settlement.fill(&mut filling);
     show_all(side, items);
-    show_all(side, written.as_mut_slice());
-    fills[..written.len()].copy_from_slice(&written);
-    written.len()
+    show_all(side, filling.fills.as_mut_slice());
+    fills[..filling.fills.len()].copy_from_slice(&filling.fills);
+    filling.fills.len()
 }
 
 // Settles an auction against the orders and responses that rest, by a share rule. Writes the contra

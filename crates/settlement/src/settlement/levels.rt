@@ -1,14 +1,22 @@
 // Works the levels, from the lowest to the stop, while contracts remain.
-ghost use Rattle.std.specs.Prelude.{◌≡◌, ◌≤◌, [], length};
+ghost use Rattle.std.specs.Prelude.{◌≡◌, ◌≤◌, not, ◌&&◌, [], length};
 ghost use Rattle.allocation.specs.Deals.{deal_of};
 ghost use Rattle.allocation.specs.Fillings.{fills_of};
-ghost use Rattle.allocation.specs.Levels.{beginnings, below_stop};
+ghost use Rattle.allocation.specs.Levels.{below_stop};
+ghost use Rattle.contra.specs.Kinds.{same_level};
+ghost use Rattle.std.specs.List.{list_any};
 
 use super::Settlement;
-use crate::filling::{Filling, Fills};
-use crate::pick::{Items, firsts, picked};
+use crate::filling::Filling;
 use ranked::contra::ContraItem;
 use share::rule::ShareRule;
+
+// Whether one of the items is of this one's level.
+fn has_level(items: &[ContraItem], item: &ContraItem) -> bool
+    ensures { result ≡ list_any (same_level item.now) items.now }
+{
+    items.iter().any(|other| item.level == other.level)
+}
 
 impl<S> Settlement<'_, S> {
     // Whether an item trades below the stop.
@@ -18,31 +26,29 @@ impl<S> Settlement<'_, S> {
         item.level < self.auction.stop()
     }
 
-    // The first item of each level below the stop.
-    fn beginnings(&self) -> Items
-        ensures { result.items ≡ beginnings (deal_of self.now.auction.now.row) [] self.now.items.now }
+    // Whether an item, which has these before it, begins a level below the stop.
+    fn begins_below(&self, item: &ContraItem, earlier: &[ContraItem]) -> bool
+        ensures { result ≡ below_stop (deal_of self.now.auction.now.row) item.now && not (list_any (same_level item.now) earlier.now) }
     {
-        let firsts = firsts(self.items, |item, other| item.level == other.level);
-        picked(&firsts, |item| self.is_below(item))
+        self.is_below(item) && !has_level(earlier, item)
     }
 }
 
 impl<S: ShareRule> Settlement<'_, S> {
-    // The fills, as a buyer sees them.
-    pub(crate) fn fills(&self) -> Fills
-        requires { length (fills_of (S.ShareRule.awards self.now.rule.now) (deal_of self.now.auction.now.row) self.now.items.now) ≤ 257 }
-        ensures { result.items ≡ fills_of (S.ShareRule.awards self.now.rule.now) (deal_of self.now.auction.now.row) self.now.items.now }
+    // Writes the fills, as a buyer sees them. The filling is lent, for its fills are large to move.
+    pub(crate) fn fill(&self, filling: &mut Filling)
+        requires size { filling.old.left ≡ (deal_of self.now.auction.now.row).size }
+        requires empty { filling.old.fills.items ≡ [] }
+        requires most { length (fills_of (S.ShareRule.awards self.now.rule.now) (deal_of self.now.auction.now.row) self.now.items.now) ≤ 257 }
+        ensures { filling.new.fills.items ≡ fills_of (S.ShareRule.awards self.now.rule.now) (deal_of self.now.auction.now.row) self.now.items.now }
     {
-        let mut filling = Filling::new(self.auction.size());
-        let beginnings = self.beginnings();
-        for first in beginnings.iter() {
-            if filling.left > 0 {
-                self.work_below(first, &mut filling);
+        for (i, first) in self.items.iter().enumerate() {
+            if filling.left > 0 && self.begins_below(first, &self.items[..i]) {
+                self.work_below(first, filling);
             }
         }
         if filling.left > 0 {
-            self.work_stop(&mut filling);
+            self.work_stop(filling);
         }
-        filling.fills
     }
 }

@@ -3,8 +3,8 @@ ghost use Rattle.std.specs.Prelude.{◌≡◌, ◌+◌, ◌≤◌, length};
 ghost use Rattle.share.specs.Awards.{total};
 ghost use Rattle.allocation.specs.Deals.{deal_of};
 ghost use Rattle.allocation.specs.Fillings.{part_fills};
-ghost use Rattle.allocation.specs.Parts.{dealt, shared};
-ghost use Rattle.settlement.specs.Groups.{GroupsFit};
+ghost use Rattle.allocation.specs.Parts.{shared};
+ghost use Rattle.settlement.specs.Groups.{GroupsFit, dealt_to};
 ghost use Rattle.settlement.specs.Writes.{Given, HasRoom};
 
 use super::Settlement;
@@ -15,13 +15,13 @@ use share::rule::ShareRule;
 impl<S> Settlement<'_, S> {
     // Gives the items of each group their award in turn.
     fn deal(&self, groups: &Groups, awards: &[u32], filling: &mut Filling)
-        requires each { length groups.now.leaders.items ≡ length awards.now }
+        requires each { length groups.now.users.items ≡ length awards.now }
         requires enough { total awards.now ≤ filling.old.left }
-        requires room { HasRoom (part_fills (deal_of self.now.auction.now.row) (dealt groups.now.others.items groups.now.leaders.items awards.now)) filling.old.fills.items }
-        ensures { Given (deal_of self.now.auction.now.row) (dealt groups.now.others.items groups.now.leaders.items awards.now) filling.old filling.new }
+        requires room { HasRoom (part_fills (deal_of self.now.auction.now.row) (dealt_to groups.now.others.now groups.now.users.items awards.now)) filling.old.fills.items }
+        ensures { Given (deal_of self.now.auction.now.row) (dealt_to groups.now.others.now groups.now.users.items awards.now) filling.old filling.new }
     {
-        for (leader, award) in groups.leaders.iter().zip(awards.iter()) {
-            self.give_in_turn(&groups.led_by(leader), *award, filling);
+        for (user, award) in groups.users.iter().zip(awards.iter()) {
+            self.give_group(groups, *user, *award, filling);
         }
     }
 }
@@ -29,10 +29,10 @@ impl<S> Settlement<'_, S> {
 impl<S: ShareRule> Settlement<'_, S> {
     // Gives the groups up to q contracts.
     pub(super) fn share_out(&self, groups: &Groups, q: u32, filling: &mut Filling)
-        requires fits { GroupsFit groups.now.others.items }
+        requires fits { GroupsFit groups.now.others.now }
         requires enough { q ≤ filling.old.left }
-        requires room { HasRoom (part_fills (deal_of self.now.auction.now.row) (shared (S.ShareRule.awards self.now.rule.now) groups.now.others.items q)) filling.old.fills.items }
-        ensures given { Given (deal_of self.now.auction.now.row) (shared (S.ShareRule.awards self.now.rule.now) groups.now.others.items q) filling.old filling.new }
+        requires room { HasRoom (part_fills (deal_of self.now.auction.now.row) (shared (S.ShareRule.awards self.now.rule.now) groups.now.others.now q)) filling.old.fills.items }
+        ensures given { Given (deal_of self.now.auction.now.row) (shared (S.ShareRule.awards self.now.rule.now) groups.now.others.now q) filling.old filling.new }
         ensures most { filling.old.left ≤ filling.new.left + q }
     {
         let sizes = groups.sizes();

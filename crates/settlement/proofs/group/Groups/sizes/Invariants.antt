@@ -1,6 +1,6 @@
 use Rattle.std.proofs.Common.{◌≡◌, map, take}
-use Rattle.allocation.specs.Parts.{group_size}
+use Rattle.settlement.proofs.Grouping.{size_of}
 use Rattle.settlement.proofs.group.Groups.sizes.Given as goal
 
-abbrev pub invariant-loop-leader : goal.invariant-loop-leader
-invariant-loop-leader l = l.sizes.items ≡ map (group_size l.self.others.items) (take l.leader-index l.self.leaders.items)
+abbrev pub invariant-loop-user : goal.invariant-loop-user
+invariant-loop-user l = l.sizes.items ≡ map (size_of l.self.others.now) (take l.user-index l.self.users.items)

@@ -10,7 +10,7 @@ deal-requires-clause-enough g c =
     let shares = shares_by g.S.ShareRule.awards laws.each laws.within laws.spent c.args.self.now.rule.now in
     let most : c.args.q ≤ 100000 = (let m = c.args.filling.now.most in omega (arith, c.requires.enough)) in
     let e = c.share-shared.ensures in
-    omega (arith, award_most awards shares c.args.groups.now.others.items c.requires.fits c.args.q most c.sizes-sizes.result.items c.deref.result.now c.sizes-sizes.ensures c.deref.ensures.0 c.deref.ensures.1 _ c.share-shared.new.given refl _ e.answer e.after c.len.result c.len.ensures.value, c.requires.enough)
+    omega (arith, award_most awards shares c.args.groups.now.others.now c.requires.fits c.args.q most c.sizes-sizes.result.items c.deref.result.now c.sizes-sizes.ensures c.deref.ensures.0 c.deref.ensures.1 _ c.share-shared.new.given refl _ e.answer e.after c.len.result c.len.ensures.value, c.requires.enough)
 
 pub deal-requires-clause-room : goal.deal-requires-clause-room
 deal-requires-clause-room g c =
@@ -19,7 +19,7 @@ deal-requires-clause-room g c =
     let shares = shares_by g.S.ShareRule.awards laws.each laws.within laws.spent c.args.self.now.rule.now in
     let most : c.args.q ≤ 100000 = (let m = c.args.filling.now.most in omega (arith, c.requires.enough)) in
     let e = c.share-shared.ensures in
-    share_room awards shares c.args.groups.now.others.items c.requires.fits c.args.q most c.sizes-sizes.result.items c.deref.result.now c.sizes-sizes.ensures c.deref.ensures.0 c.deref.ensures.1 _ c.share-shared.new.given refl _ e.answer e.after c.len.result c.len.ensures.value _ c.args.groups.now.led (deal_of c.args.self.now.auction.now.row) _ c.requires.room
+    share_room awards shares c.args.groups.now.others.now c.requires.fits c.args.q most c.sizes-sizes.result.items c.deref.result.now c.sizes-sizes.ensures c.deref.ensures.0 c.deref.ensures.1 _ c.share-shared.new.given refl _ e.answer e.after c.len.result c.len.ensures.value _ c.args.groups.now.led (deal_of c.args.self.now.auction.now.row) _ c.requires.room
 
 pub returns : goal.returns
 returns g c =
@@ -28,5 +28,5 @@ returns g c =
     let shares = shares_by g.S.ShareRule.awards laws.each laws.within laws.spent c.args.self.now.rule.now in
     let most : c.args.q ≤ 100000 = (let m = c.args.filling.now.most in omega (arith, c.requires.enough)) in
     let e = c.share-shared.ensures in
-    let s = share_given awards shares c.args.groups.now.others.items c.requires.fits c.args.q most c.sizes-sizes.result.items c.deref.result.now c.sizes-sizes.ensures c.deref.ensures.0 c.deref.ensures.1 _ c.share-shared.new.given refl _ e.answer e.after c.len.result c.len.ensures.value _ c.args.groups.now.led (deal_of c.args.self.now.auction.now.row) _ _ c.deal.ensures in
+    let s = share_given awards shares c.args.groups.now.others.now c.requires.fits c.args.q most c.sizes-sizes.result.items c.deref.result.now c.sizes-sizes.ensures c.deref.ensures.0 c.deref.ensures.1 _ c.share-shared.new.given refl _ e.answer e.after c.len.result c.len.ensures.value _ c.args.groups.now.led (deal_of c.args.self.now.auction.now.row) _ _ c.deal.ensures in
     record { given = s.0; most = s.1 }

@@ -12,9 +12,9 @@ share_out-requires-clause-room g c =
     let a = c.args.self.now.auction.now.row in
     let level = c.args.first.now.level in
     let sized : SFits w32 level = search rules in
-    let h = c.at_level-here.ensures ∙ ap (λ z. items_at z c.args.self.now.items.now) (to_z-of_z w32 level sized) in
+    let h = c.at_level-here.ensures.here ∙ ap (λ z. items_at z c.args.self.now.items.now) (to_z-of_z w32 level sized) in
     let o = c.own_below-own.ensures in
-    below_groups_room (deal_of a) (g.S.ShareRule.awards c.args.self.now.rule.now) level (items_at level c.args.self.now.items.now) c.deref.result.now c.among.result.others.items (c.deref.ensures.0 ∙ (c.customers.ensures ∙ ap customers_in h)) (c.among.ensures ∙ ap others_in h) c.args.filling.now.left c.own_below-own.result (o.value ∙ ap (λ l. matched_in (matches_at a level) l c.args.filling.now.left) h) o.most _ _ refl c.give_in_turn.ensures.given c.give_in_turn.ensures.most c.give_in_turn.new.filling c.requires
+    below_groups_room (deal_of a) (g.S.ShareRule.awards c.args.self.now.rule.now) level (items_at level c.args.self.now.items.now) c.by_kind.result.0.now c.among.result.others.now (c.by_kind.ensures.customers ∙ ap customers_in h) (c.among.ensures ∙ (c.by_kind.ensures.others ∙ ap others_in h)) c.args.filling.now.left c.own_below-own.result (o.value ∙ ap (λ l. matched_in (matches_at a level) l c.args.filling.now.left) h) o.most _ _ refl c.give_in_turn.ensures.given c.give_in_turn.ensures.most c.give_in_turn.new.filling c.requires
 
 pub give_own-requires-clause-room : goal.give_own-requires-clause-room
 give_own-requires-clause-room g c =
@@ -22,11 +22,11 @@ give_own-requires-clause-room g c =
     let level = c.args.first.now.level in
     let sized : SFits w32 level = search rules in
     let same = to_z-of_z w32 level sized in
-    let h = c.at_level-here.ensures ∙ ap (λ z. items_at z c.args.self.now.items.now) same in
+    let h = c.at_level-here.ensures.here ∙ ap (λ z. items_at z c.args.self.now.items.now) same in
     let o = c.own_below-own.ensures in
-    let customers = c.deref.ensures.0 ∙ (c.customers.ensures ∙ ap customers_in h) in
+    let customers = c.by_kind.ensures.customers ∙ ap customers_in h in
     let match = o.value ∙ ap (λ l. matched_in (matches_at a level) l c.args.filling.now.left) h in
-    below_own_room (deal_of a) (g.S.ShareRule.awards c.args.self.now.rule.now) level (items_at level c.args.self.now.items.now) c.deref.result.now c.among.result.others.items customers (c.among.ensures ∙ ap others_in h) c.args.filling.now.left c.own_below-own.result match o.most _ _ refl c.give_in_turn.ensures.given c.give_in_turn.ensures.most _ c.share_out.ensures.given c.share_out.ensures.most _ same c.requires
+    below_own_room (deal_of a) (g.S.ShareRule.awards c.args.self.now.rule.now) level (items_at level c.args.self.now.items.now) c.by_kind.result.0.now c.among.result.others.now customers (c.among.ensures ∙ (c.by_kind.ensures.others ∙ ap others_in h)) c.args.filling.now.left c.own_below-own.result match o.most _ _ refl c.give_in_turn.ensures.given c.give_in_turn.ensures.most _ c.share_out.ensures.given c.share_out.ensures.most _ same c.requires
 
 pub returns : goal.returns
 returns g c =
@@ -34,9 +34,9 @@ returns g c =
     let level = c.args.first.now.level in
     let sized : SFits w32 level = search rules in
     let same = to_z-of_z w32 level sized in
-    let h = c.at_level-here.ensures ∙ ap (λ z. items_at z c.args.self.now.items.now) same in
+    let h = c.at_level-here.ensures.here ∙ ap (λ z. items_at z c.args.self.now.items.now) same in
     let o = c.own_below-own.ensures in
-    let customers = c.deref.ensures.0 ∙ (c.customers.ensures ∙ ap customers_in h) in
+    let customers = c.by_kind.ensures.customers ∙ ap customers_in h in
     let match = o.value ∙ ap (λ l. matched_in (matches_at a level) l c.args.filling.now.left) h in
     let own = c.give_own.ensures in
-    below_worked (deal_of a) (g.S.ShareRule.awards c.args.self.now.rule.now) level (items_at level c.args.self.now.items.now) c.deref.result.now c.among.result.others.items customers (c.among.ensures ∙ ap others_in h) c.args.filling.now.left c.own_below-own.result match o.most _ _ refl c.give_in_turn.ensures.given c.give_in_turn.ensures.most _ c.share_out.ensures.given c.share_out.ensures.most _ same _ own.left own.after
+    below_worked (deal_of a) (g.S.ShareRule.awards c.args.self.now.rule.now) level (items_at level c.args.self.now.items.now) c.by_kind.result.0.now c.among.result.others.now customers (c.among.ensures ∙ (c.by_kind.ensures.others ∙ ap others_in h)) c.args.filling.now.left c.own_below-own.result match o.most _ _ refl c.give_in_turn.ensures.given c.give_in_turn.ensures.most _ c.share_out.ensures.given c.share_out.ensures.most _ same _ own.left own.after

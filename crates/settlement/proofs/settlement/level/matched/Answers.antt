@@ -5,10 +5,10 @@ use Rattle.settlement.proofs.settlement.level.matched.Goals as goal
 
 pub overflow_sub-result : goal.overflow_sub-result
 overflow_sub-result c =
-    let e : c.fold-rest.result ≡ fold (λ rest x. rest - counts x) c.args.left c.args.here.now.items = search rules in
-    omega (arith, unmatched_left c.args.here.now.items c.args.left)
+    let e : c.fold-rest.result ≡ fold (λ rest x. rest - counts x) c.args.left c.args.here.now = search rules in
+    omega (arith, unmatched_left c.args.here.now c.args.left)
 
 pub returns : goal.returns
 returns c =
-    let e : c.fold-rest.result ≡ fold (λ rest x. rest - counts x) c.args.left c.args.here.now.items = search rules in
-    omega (arith, unmatched_left c.args.here.now.items c.args.left)
+    let e : c.fold-rest.result ≡ fold (λ rest x. rest - counts x) c.args.left c.args.here.now = search rules in
+    omega (arith, unmatched_left c.args.here.now c.args.left)
