@@ -16,6 +16,7 @@ use ranked::list::Ordered;
 use terms::order::{Order, Response};
 
 // Puts an item in its place, if there is one.
+#[inline(always)]
 fn put(list: &mut Ordered<'_, ContraItem>, item: Option<ContraItem>)
     requires { list.old.len < length (places list.old) }
     ensures after { places list.new ≡ gathered contra_before (places list.old) list.old.len (option_to_list item) }
