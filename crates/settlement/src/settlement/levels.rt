@@ -42,6 +42,7 @@ impl<S: ShareRule> Settlement<'_, S> {
         requires most { length (fills_of (S.ShareRule.awards self.now.rule.now) (deal_of self.now.auction.now.row) self.now.items.now) ≤ 257 }
         ensures { filling.new.fills.items ≡ fills_of (S.ShareRule.awards self.now.rule.now) (deal_of self.now.auction.now.row) self.now.items.now }
     {
+        // Whether an item begins a level is told by all in front of it, so its place is counted.
         for (i, first) in self.items.iter().enumerate() {
             if filling.left > 0 && self.begins_below(first, &self.items[..i]) {
                 self.work_below(first, filling);
